@@ -1,0 +1,4 @@
+mod Kept
+mod Replay
+mod Crashes
+mod Shelved

@@ -1,0 +1,17 @@
+pub mod Asked
+pub mod Causes
+pub mod Contents
+pub mod Crash
+pub mod Disk
+pub mod Fails
+pub mod MemDesk
+pub mod MemShelf
+pub mod MemSource
+pub mod Memory
+pub mod Moments
+pub mod Past
+pub mod Recorded
+pub mod Shelves
+pub mod Sources
+pub mod Told
+pub mod Torn

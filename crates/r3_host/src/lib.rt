@@ -1,0 +1,13 @@
+//! The real environment: a file, standard output and standard input.
+//!
+//! A contract learns from these objects only when they fail: they tell nothing of what the system holds.
+#![tactic(auto)]
+
+mod desk;
+mod file;
+mod shelf;
+mod source;
+
+pub use desk::HostDesk;
+pub use shelf::HostShelf;
+pub use source::HostSource;
