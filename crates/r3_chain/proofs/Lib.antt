@@ -1,0 +1,10 @@
+pub mod LinkLemmas
+pub mod WalkLemmas
+pub mod HeadLemmas
+pub mod PutLemmas
+pub mod SoundLemmas
+pub mod RoomLemmas
+pub mod RangeLemmas
+pub mod TrimLemmas
+pub mod ForestLemmas
+pub mod TwinLemmas

@@ -1,0 +1,70 @@
+-- What stands in the slots after a chain is cut behind a version.
+use Rattle.std.specs.Prelude.{◌≡◌, ◌≢◌, ℕ, ◌+◌, ◌<◌, ◌≤◌, cond, nat_le, List, [], ◌∷◌, length, Option, Some, None}
+use Rattle.std.specs.List.{AllByRecursion}
+use Rattle.r3_pool.specs.Slots.{Slots, value_at, live_count}
+use Rattle.r3_chain.specs.Links.{Cells, Placed, trace, Ends, visits}
+use Rattle.r3_chain.specs.Sound.{total}
+use Rattle.r3_chain.specs.declared.node.Node.{Node}
+use Rattle.r3_chain.specs.declared.head.Head.{Head}
+
+module _ {V : Type 0} where
+  -- the versions past the index, and the last one up to it
+  abbrev pub cut_at : ℕ → List (Placed V) → List (Placed V)
+  cut_at oldest [] = []
+  cut_at oldest (p ∷ ps) = cond (nat_le p.1.0 oldest) (p ∷ []) (p ∷ cut_at oldest ps)
+
+  -- the versions behind that one
+  abbrev pub behind : ℕ → List (Placed V) → List (Placed V)
+  behind oldest [] = []
+  behind oldest (p ∷ ps) = cond (nat_le p.1.0 oldest) ps (behind oldest ps)
+
+  -- the slot of the last version up to the index
+  abbrev pub first_slot : ℕ → List (Placed V) → Option ℕ
+  first_slot oldest [] = None
+  first_slot oldest (p ∷ ps) = cond (nat_le p.1.0 oldest) (Some p.0) (first_slot oldest ps)
+
+  -- a whole chain that comes to each slot once
+  pub record IsLine (n : ℕ) (cells : Cells V) (o : Option ℕ) : Type 0 where
+    pub ends : Ends n cells o
+    pub once : (t : ℕ) → visits t (trace n cells o) ≤ 1
+
+  -- the slots of these versions are free, and no other slot has changed
+  pub record Frees (ps : List (Placed V)) (old new : Slots (Node V)) : Type 0 where
+    pub gone : (t : ℕ) → 0 < visits t ps → value_at new t ≡ None
+    pub others : (t : ℕ) → visits t ps ≡ 0 → value_at new t ≡ value_at old t
+    pub live : live_count new + length ps ≡ live_count old
+    pub cap : new.cap ≡ old.cap
+    pub spare : old.spare ≤ new.spare
+
+  -- the chain, of at most n versions, is cut, and no slot of another has changed
+  pub record Trims (n oldest : ℕ) (o : Option ℕ) (old new : Slots (Node V)) : Type 0 where
+    pub ends : Ends n (value_at new) o
+    pub cut : trace n (value_at new) o ≡ cut_at oldest (trace n (value_at old) o)
+    pub others : (t : ℕ) → visits t (trace n (value_at old) o) ≡ 0 → value_at new t ≡ value_at old t
+    pub live : live_count new + length (trace n (value_at old) o) ≡ live_count old + length (cut_at oldest (trace n (value_at old) o))
+    pub cap : new.cap ≡ old.cap
+    pub spare : old.spare ≤ new.spare
+
+  -- the version is the last of its chain, where it was followed by this slot
+  pub record EndsAt (s : ℕ) (older : Option ℕ) (old new : Slots (Node V)) : Type 0 where
+    pub index : ℕ
+    pub value : Option V
+    pub was : value_at old s ≡ Some (record { index = index; value = value; older = older })
+    pub is : value_at new s ≡ Some (record { index = index; value = value; older = None })
+    pub others : (t : ℕ) → t ≢ s → value_at new t ≡ value_at old t
+    pub live : live_count new ≡ live_count old
+    pub cap : new.cap ≡ old.cap
+    pub spare : new.spare ≡ old.spare
+
+  -- the chains of all keys are whole, come to each slot once, and have each slot in use
+  pub record IsForest {K : Type 0} (n : ℕ) (nodes : Slots (Node V)) (es : List (K × Head)) : Type 0 where
+    pub ends : AllByRecursion (λ e. Ends n (value_at nodes) e.1.newest) es
+    pub apart : (t : ℕ) → total (λ h. visits t (trace n (value_at nodes) h.newest)) es ≤ 1
+    pub count : total (λ h. length (trace n (value_at nodes) h.newest)) es ≡ live_count nodes
+
+  -- and each is cut
+  pub record TrimsAll {K : Type 0} (n oldest : ℕ) (es : List (K × Head)) (old new : Slots (Node V)) : Type 0 where
+    pub forest : IsForest n new es
+    pub cut : AllByRecursion (λ e. trace n (value_at new) e.1.newest ≡ cut_at oldest (trace n (value_at old) e.1.newest)) es
+    pub cap : new.cap ≡ old.cap
+    pub spare : old.spare ≤ new.spare

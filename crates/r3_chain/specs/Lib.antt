@@ -1,0 +1,6 @@
+pub mod Versions
+pub mod Links
+pub mod Heads
+pub mod Sound
+pub mod Cuts
+pub mod VersionLaws

@@ -1,0 +1,69 @@
+//! The versions in the slab, and the walk along one key's chain.
+
+ghost use Rattle.std.specs.Prelude.{◌≡◌, ℕ, Some};
+ghost use Rattle.std.specs.Option.{option_map};
+ghost use Rattle.r3_pool.specs.Slots.{value_at};
+ghost use Rattle.r3_chain.specs.Versions.{last_upto as upto, first_past as past, AreFalling, present};
+ghost use Rattle.r3_chain.specs.Links.{IsChain, chain_in};
+
+use r3_pool::{Pool, Slot};
+
+/// A version of a key, with the slot of the next older one.
+#[derive(Drop)]
+pub struct Node<V> {
+    pub index: u32,
+    pub value: Option<V>,
+    pub older: Option<Slot>,
+}
+
+/// The last version up to the index.
+pub fn last_upto<V: Drop>(
+    nodes: &Pool<Node<V>>,
+    newest: Option<Slot>,
+    index: u32,
+) -> Option<&Node<V>>
+    requires { IsChain nodes.now newest }
+    ensures { option_map (λ n. (n.now.index, n.now.value)) result ≡ upto index (chain_in nodes.now newest) }
+{
+    let mut next = newest;
+    'walk: while let Some(slot) = next {
+        let node = nodes.get(slot);
+        if node.index <= index {
+            return Some(node);
+        }
+        next = node.older;
+    }
+    None
+}
+
+/// The index of the last version up to the index, where it is no deletion.
+pub fn present_upto<V: Drop>(nodes: &Pool<Node<V>>, newest: Option<Slot>, index: u32) -> Option<u32>
+    requires { IsChain nodes.now newest }
+    ensures { result ≡ option_map (λ p. p.1) (present (upto index (chain_in nodes.now newest))) }
+{
+    let node = last_upto(nodes, newest, index)?;
+    match node.value {
+        Some(_) => Some(node.index),
+        None => None,
+    }
+}
+
+/// The index of the first version past the snapshot.
+pub fn first_past<V: Drop>(nodes: &Pool<Node<V>>, newest: Option<Slot>, snap: u32) -> Option<u32>
+    requires chain { IsChain nodes.now newest }
+    requires falling { AreFalling (chain_in nodes.now newest) }
+    ensures { result ≡ past snap (chain_in nodes.now newest) }
+{
+    let mut first = None;
+    let mut next = newest;
+    'walk: while let Some(slot) = next {
+        let node = nodes.get(slot);
+        // The versions behind this one are older still.
+        if node.index <= snap {
+            return first;
+        }
+        first = Some(node.index);
+        next = node.older;
+    }
+    first
+}
