@@ -1,0 +1,9 @@
+use Rattle.std.proofs.Common.{◌≡◌, ap, length, arith}
+use Rattle.std.proofs.lemmas.Grind.{common_steps}
+use Rattle.r3_rows.proofs.same.same_keys.Goals as goal
+
+pub returns-then-a-b : goal.returns-then-a-b
+returns-then-a-b c = (
+  λ f. absurd cc,
+  λ e. absurd (c.if-a-b.true (omega (arith, ap length e))),
+)

@@ -1,0 +1,4 @@
+pub mod Keys
+pub mod KeyOrder
+pub mod Pairs
+pub mod Words
