@@ -1,0 +1,9 @@
+pub mod Bytes
+pub mod Writes
+pub mod Steps
+pub mod Crashes
+pub mod Frames
+pub mod Parses
+pub mod Pieces
+pub mod Exclusive
+pub mod Opens

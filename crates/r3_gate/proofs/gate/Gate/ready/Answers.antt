@@ -1,0 +1,10 @@
+use Rattle.r3_gate.proofs.Steps.{seen_log}
+use Rattle.r3_gate.proofs.Crashes.{at_rest}
+use Rattle.r3_gate.proofs.gate.Gate.ready.Goals as goal
+
+pub returns-then-not-self-clause-crash : goal.returns-then-not-self-clause-crash
+returns-then-not-self-clause-crash g c = λ ps qs t.
+    at_rest g.D.Desk.size g.D.Desk.image g.D.Desk.may_leave g.D.Desk.moment g.D.Desk.reach g.D.Desk.said g.D.Desk.asked c.args.desk.now c.args.self.now ps qs (g.met.D.Desk.counts_now c.args.desk.now) (g.met.D.Desk.only_now c.args.desk.now) t
+
+pub returns-then-not-self-clause-reads : goal.returns-then-not-self-clause-reads
+returns-then-not-self-clause-reads g c = λ ps qs t i is. seen_log g.D.Desk.size g.D.Desk.image g.D.Desk.may_leave c.args.desk.now c.args.self.now ps qs t i is
