@@ -1,0 +1,13 @@
+pub mod Worked
+pub mod Sizes
+pub mod Codes
+pub mod Prefixes
+pub mod Parts
+pub mod ImageLemmas
+pub mod EntryUnique
+pub mod Append
+pub mod PartsUnique
+pub mod Whole
+pub mod ActsWhole
+pub mod EntryWhole
+pub mod CellsWhole

@@ -1,0 +1,5 @@
+use Rattle.r3_entry.proofs.ActsWhole.{program_misses}
+use Rattle.r3_entry.proofs.act_fields.program_of.Goals as goal
+
+pub returns-in-Err : goal.returns-in-Err
+returns-in-Err c = program_misses c.args.r.now.rest c.in-Err.miss c.in-Err.ensures

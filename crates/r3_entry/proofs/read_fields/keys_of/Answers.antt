@@ -1,0 +1,9 @@
+use Rattle.r3_entry.specs.Limits.{IsSeen}
+use Rattle.r3_entry.specs.Parts as part
+use Rattle.r3_entry.proofs.EntryUnique.{seen_unique}
+use Rattle.r3_entry.proofs.Parts.{list_misses}
+use Rattle.r3_entry.proofs.read_fields.keys_of.Goals as goal
+
+pub returns-in-Err : goal.returns-in-Err
+returns-in-Err c =
+    list_misses part.seen IsSeen seen_unique c.in_ok-count.count c.loop.counter c.loop.keys c.args.r.now.rest c.number_of.new.r.rest c.loop.r.rest c.in-Err.miss c.in_ok-count.ensures.0 c.in_ok-count.ensures.1 c.loop.invariant c.loop-test.true c.in-Err.ensures

@@ -1,0 +1,12 @@
+use Rattle.std.proofs.lemmas.Result.{err_from_is_err_and}
+use Rattle.r3_entry.specs.Bytes as spell
+use Rattle.r3_entry.specs.Limits.{IsOutcome}
+use Rattle.r3_entry.specs.Parts as part
+use Rattle.r3_entry.proofs.Parts.{both_misses}
+use Rattle.r3_entry.proofs.PartsUnique.{named_unique}
+use Rattle.r3_entry.proofs.row_fields.ended_of.Goals as goal
+
+pub returns-in_err-outcome : goal.returns-in_err-outcome
+returns-in_err-outcome c =
+    let p = err_from_is_err_and c.from_residual-in_err-outcome.result c.from_residual-in_err-outcome.ensures.1 in
+    rw (p.1, p.2) (both_misses part.named part.IsNamed spell.outcome IsOutcome named_unique c.in_ok-named.named c.args.r.now.rest c.named_of.new.r.rest c.in_err-outcome.field-0.0 c.in_ok-named.ensures.0 c.in_ok-named.ensures.1 c.in_err-outcome.ensures)
