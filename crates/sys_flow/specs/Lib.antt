@@ -1,0 +1,4 @@
+pub mod Repeats
+pub mod Children
+pub mod Awaits
+pub mod Statuses

@@ -1,0 +1,4 @@
+pub mod Changed
+pub mod Follows
+pub mod Made
+pub mod Told
