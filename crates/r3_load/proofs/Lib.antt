@@ -1,0 +1,6 @@
+pub mod Counts
+pub mod RowWrites
+pub mod RowsRead
+pub mod Appends
+pub mod Loading
+pub mod Serving

@@ -1,0 +1,5 @@
+pub mod Texts
+pub mod Functions
+pub mod Lines
+pub mod Loads
+pub mod Holds
