@@ -4,7 +4,7 @@ ghost use Rattle.std.specs.Prelude.{IfOk};
 ghost use Rattle.r3_desk.specs.Crash.{NothingPending};
 
 use super::*;
-use r3_desk::{Desk, MemDesk, Room, Torn};
+use r3_desk::{Desk, MemDesk, Room};
 use std::alloc::Global;
 use std::test::Fail;
 
@@ -37,29 +37,6 @@ fn read(alloc: Global, image: &[u8]) -> Result<Result<Vec<u8>, GateFault>, Fail>
         text.push(b'|')?;
     }
     Ok(Ok(text))
-}
-
-#[test]
-fn two_records_are_committed_at_once(rt: HostRuntime) -> Result<(), Fail> {
-    let alloc = rt.alloc();
-    let mut desk = desk_over(alloc, b"")?;
-    let (mut gate, _) = Gate::open(alloc, &mut desk)?;
-    gate.stage(alloc, &mut desk, b"ab")?;
-    gate.stage(alloc, &mut desk, b"c")?;
-    assert_eq!(rt;
-        desk.image(),
-        b"R3STORE1\0\0\0\0\x02ab\xa5\0\0\0\x01c\0".as_slice()
-    );
-    assert!(rt; gate.has_staged());
-    gate.publish(&mut desk)?;
-    assert_eq!(rt;
-        desk.image(),
-        b"R3STORE1\xa5\0\0\0\x02ab\xa5\0\0\0\x01c\0".as_slice()
-    );
-    assert!(rt; !gate.has_staged());
-    assert_eq!(rt; gate.count(), 2);
-    assert_eq!(rt; gate.end(), 22);
-    Ok(())
 }
 
 #[test]
@@ -108,34 +85,6 @@ fn a_file_is_cut_to_each_length(rt: HostRuntime) -> Result<(), Fail> {
             _ => None,
         };
         assert_eq!(rt; got.err(), want, "cut to {len} bytes");
-    }
-    Ok(())
-}
-
-#[test]
-fn a_crash_at_each_device_call_leaves_all_or_nothing(rt: HostRuntime) -> Result<(), Fail> {
-    let alloc = rt.alloc();
-    let mut desk = desk_over(alloc, b"")?;
-    let (mut gate, _) = Gate::open(alloc, &mut desk)?;
-    gate.stage(alloc, &mut desk, b"ab")?;
-    gate.stage(alloc, &mut desk, b"c")?;
-    gate.stage(alloc, &mut desk, b"def")?;
-    gate.publish(&mut desk)?;
-    // The length, the header and its sync, three records and their sync, the commit byte and its sync.
-    assert_eq!(rt; desk.moment(), 9);
-    for torn in [Torn::Old, Torn::New, Torn::Fill(0x37), Torn::Fill(0xa5)] {
-        for moment in 0..=9 {
-            let image = desk.crash(moment, torn)?;
-            let got = read(alloc, &image)??;
-            // From its write on the commit byte may be open, and from its sync on it is.
-            let whole = moment == 9 || moment == 8 && matches!(torn, Torn::New | Torn::Fill(0xa5));
-            let want = if whole {
-                b"ab|c|def|".as_slice()
-            } else {
-                b"".as_slice()
-            };
-            assert_eq!(rt; got.as_slice(), want, "{torn:?} after {moment} calls");
-        }
     }
     Ok(())
 }
