@@ -4,3 +4,4 @@ pub mod RowsRead
 pub mod Appends
 pub mod Loading
 pub mod Serving
+pub mod EmptyLog

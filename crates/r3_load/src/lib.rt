@@ -8,6 +8,7 @@ mod functions;
 mod line;
 mod lines;
 mod loads;
+mod opening;
 mod reply;
 mod stop;
 #[cfg(test)]
@@ -17,5 +18,6 @@ pub use functions::table_of;
 pub use line::{ScriptLine, read_line};
 pub use lines::{answer, serve};
 pub use loads::{append, writes_of};
+pub use opening::{image_of_history, open_empty};
 pub use reply::{Reply, reply_text};
 pub use stop::Stop;

@@ -1,0 +1,48 @@
+//! A durable execution engine on the command line.
+//!
+//! `top` is the whole program over any disk, output, script and function file; a contract sees its end as the run
+//! that `run_file` defines. `main` hands it the real ones.
+#![tactic(auto)]
+
+#[cfg(test)]
+mod cases;
+mod lines;
+mod run;
+mod top;
+mod words;
+
+use crate::top::top;
+use r3_host::{HostDesk, HostShelf, HostSource};
+use std::alloc::Global;
+use std::io::ErrorKind;
+use std::process::ExitCode;
+use std::{env, io};
+
+const NO_MEMORY: u8 = 3;
+
+// The words behind the program's own name.
+fn words_of(rt: &HostRuntime, alloc: Global) -> io::Result<Vec<String>> {
+    let mut args = env::args(rt)?;
+    let _program = args.next();
+    Ok(args.collect(alloc)?)
+}
+
+fn main(rt: HostRuntime) -> ExitCode {
+    let alloc = rt.alloc();
+    let words = match words_of(&rt, alloc) {
+        Ok(words) => words,
+        Err(fault) if fault.kind() == ErrorKind::OutOfMemory => return ExitCode::from(NO_MEMORY),
+        // A word that isn't UTF-8 makes no command.
+        Err(_) => Vec::new(alloc),
+    };
+    let store = match words.first() {
+        Some(word) => word.as_str(),
+        None => "",
+    };
+    let Ok(mut desk) = HostDesk::at(rt, alloc, store) else {
+        return ExitCode::from(NO_MEMORY);
+    };
+    let mut script = HostSource::new(&rt);
+    let mut shelf = HostShelf::new(rt);
+    ExitCode::from(top(alloc, &words, &mut desk, &mut script, &mut shelf))
+}

@@ -1,0 +1,27 @@
+#!/bin/sh
+# Runs the program with the words given, as `./r3 STORE run FUNCTIONS`.
+# Where it isn't built, or is older than its sources, it is proved and built first; that is told on standard error.
+here=$(cd "$(dirname "$0")" && pwd)
+crate=$here/crates/r3_cli
+program=$crate/out/r3_cli
+
+is_old() {
+    [ ! -x "$program" ] || [ -n "$(find "$here/crates.txt" "$here"/crates/*/src "$here"/crates/*/specs \
+        "$here"/crates/*/proofs -newer "$program" -print -quit 2>/dev/null)" ]
+}
+
+if is_old; then
+    if ! command -v rt >/dev/null; then
+        echo "r3: the command 'rt' of the toolchain is needed to prove and build the program" >&2
+        exit 70
+    fi
+    echo "r3: proving and building the program; this takes some minutes the first time" >&2
+    # Run without words, it answers that they are no command.
+    (cd "$crate" && rt run -- </dev/null 2>&1) | grep -v "^{\"fault\":\"usage\"}$" >&2
+    if is_old; then
+        echo "r3: the program wasn't built; see above" >&2
+        exit 70
+    fi
+    echo "r3: built" >&2
+fi
+exec "$program" "$@"
