@@ -15,6 +15,8 @@ mod memory;
 mod shelf;
 mod source;
 mod step;
+#[cfg(test)]
+mod tests;
 mod torn;
 
 pub use asked::Asked;

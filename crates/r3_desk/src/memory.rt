@@ -13,6 +13,8 @@ ghost use Rattle.r3_value.specs.declared.value.Outcome.TheVariants.{Value};
 ghost use Rattle.r3_value.specs.declared.value.Val.TheVariants.{Null};
 
 mod device;
+#[cfg(test)]
+mod tests;
 
 use crate::calls::Calls;
 use crate::crash::image_left;

@@ -4,7 +4,7 @@ ghost use Rattle.std.specs.Prelude.{IfOk};
 ghost use Rattle.r3_desk.specs.Crash.{NothingPending};
 
 use super::*;
-use r3_desk::{Desk, MemDesk, Room};
+use r3_desk::{Desk, MemDesk, Room, Torn};
 use std::alloc::Global;
 use std::test::Fail;
 
@@ -16,7 +16,7 @@ fn desk_over(alloc: Global, image: &[u8]) -> Result<MemDesk, Fail>
         NothingPending (⟦<MemDesk as Desk>⟧.image desk) (⟦<MemDesk as Desk>⟧.may_leave desk)) }
 {
     let room = Room {
-        calls: 20,
+        calls: 30,
         bytes: 200,
     };
     let image = image.to_vec(alloc)?;
@@ -85,6 +85,81 @@ fn a_file_is_cut_to_each_length(rt: HostRuntime) -> Result<(), Fail> {
             _ => None,
         };
         assert_eq!(rt; got.err(), want, "cut to {len} bytes");
+    }
+    Ok(())
+}
+
+// Opens the log, stages these payloads and publishes them.
+fn append<D: Desk>(alloc: Global, desk: &mut D, payloads: &[&[u8]]) -> Result<(), Fail>
+    requires { NothingPending (D.image desk.old) (D.may_leave desk.old) }
+{
+    let (mut gate, _before) = Gate::open(alloc, desk)?;
+    for payload in payloads {
+        if payload.is_empty() || payload.len() > 100 {
+            return Err(Fail::from("no payload"));
+        }
+        gate.stage(alloc, desk, payload)?;
+    }
+    if !gate.has_staged() {
+        return Err(Fail::from("nothing is staged"));
+    }
+    gate.publish(desk)?;
+    Ok(())
+}
+
+// What opening the file answers that a crash leaves after so many device calls.
+fn read_after(
+    alloc: Global,
+    desk: &MemDesk,
+    moment: u64,
+    torn: Torn,
+) -> Result<Result<Vec<u8>, GateFault>, Fail> {
+    if moment > desk.moment() {
+        return Err(Fail::from("no such moment"));
+    }
+    let image = desk.crash(moment, torn)?;
+    read(alloc, &image)
+}
+
+#[test]
+fn a_record_takes_the_place_of_one_that_was_not_committed(rt: HostRuntime) -> Result<(), Fail> {
+    let alloc = rt.alloc();
+    for byte in [0x00, 0x37] {
+        let mut image = *b"R3STORE1\xa5\0\0\0\x02ab\xa5\0\0\0\x01c\0";
+        image[15] = byte;
+        let mut desk = desk_over(alloc, &image)?;
+        append(alloc, &mut desk, &[b"d"])?;
+        let want = b"R3STORE1\xa5\0\0\0\x02ab\xa5\0\0\0\x01d\0".as_slice();
+        assert_eq!(rt; desk.image(), want, "behind {byte}");
+    }
+    Ok(())
+}
+
+#[test]
+fn a_crash_leaves_all_that_was_staged_or_none_of_it(rt: HostRuntime) -> Result<(), Fail> {
+    let alloc = rt.alloc();
+    // a file, its payloads, those with "c", "def" and "g", and which device call opens the commit byte
+    let cases = [
+        (b"".as_slice(), b"".as_slice(), b"c|def|g|".as_slice(), 8),
+        (b"R3STORE1\xa5\0\0\0\x02ab\0", b"ab|", b"ab|c|def|g|", 7),
+    ];
+    for (image, before, after, opening) in cases {
+        let mut desk = desk_over(alloc, image)?;
+        append(alloc, &mut desk, &[b"c", b"def", b"g"])?;
+        assert!(rt; desk.moment() > opening);
+        for moment in 0..=desk.moment() {
+            for torn in [Torn::Old, Torn::New, Torn::Fill(0x37), Torn::Fill(0xa5)] {
+                // that call isn't synced yet
+                let may_open = moment == opening && matches!(torn, Torn::New | Torn::Fill(0xa5));
+                let want = if moment > opening || may_open {
+                    after
+                } else {
+                    before
+                };
+                let got = read_after(alloc, &desk, moment, torn)?;
+                assert_eq!(rt; got?.as_slice(), want, "{torn:?} after {moment} calls");
+            }
+        }
     }
     Ok(())
 }

@@ -7,6 +7,8 @@ mod desk;
 mod file;
 mod shelf;
 mod source;
+#[cfg(test)]
+mod tests;
 
 pub use desk::HostDesk;
 pub use shelf::HostShelf;
