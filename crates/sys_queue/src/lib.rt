@@ -8,6 +8,8 @@
 mod line;
 mod next;
 mod queues;
+#[cfg(test)]
+mod tests;
 
 pub use next::Next;
 pub use queues::Queues;
