@@ -54,6 +54,14 @@ impl Writes {
         self.pairs.as_slice()
     }
 
+    /// The map of these pairs, which stand in rising order of their keys. It takes no memory.
+    pub fn from_list(pairs: Vec<(Key, Option<Cell>)>) -> Writes
+        requires rising { IsTrue (is_sorted key_cmp pairs.items) }
+        ensures { result ≡ pairs.items }
+    {
+        Writes { pairs }
+    }
+
     /// Hands out the pairs in the order of their keys.
     pub fn into_list(self) -> Vec<(Key, Option<Cell>)>
         ensures items { result.items ≡ self }
