@@ -138,7 +138,7 @@ fn a_record_takes_the_place_of_one_that_was_not_committed(rt: HostRuntime) -> Re
 #[test]
 fn a_crash_leaves_all_that_was_staged_or_none_of_it(rt: HostRuntime) -> Result<(), Fail> {
     let alloc = rt.alloc();
-    // a file, its payloads, those with "c", "def" and "g", and which device call opens the commit byte
+    // a file, its payloads, those with "c", "def" and "g", and the call that opens the commit byte
     let cases = [
         (b"".as_slice(), b"".as_slice(), b"c|def|g|".as_slice(), 8),
         (b"R3STORE1\xa5\0\0\0\x02ab\0", b"ab|", b"ab|c|def|g|", 7),
