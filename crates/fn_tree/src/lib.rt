@@ -12,4 +12,7 @@ pub mod expr;
 pub mod flow;
 pub mod look;
 pub mod program;
+mod same;
 pub mod stmt;
+#[cfg(test)]
+mod tests;
