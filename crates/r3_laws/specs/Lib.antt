@@ -1,0 +1,4 @@
+pub mod OfEvents
+pub mod OfStates
+pub mod OfHistories
+pub mod OfPrograms

@@ -1,0 +1,10 @@
+pub mod Steps
+pub mod GoesLemmas
+pub mod Drains
+pub mod Bank
+pub mod WorkedTurns
+pub mod WorkedDrains
+pub mod WorkedCalls
+pub mod WorkedReplay
+pub mod WorkedRetro
+pub mod WorkedForms
