@@ -15,6 +15,8 @@ mod helpers;
 mod operand;
 mod operation;
 mod sequences;
+#[cfg(test)]
+mod tests;
 
 pub use bindings::{Env, bind};
 pub use evaluation::{eval, evaluate, values};
