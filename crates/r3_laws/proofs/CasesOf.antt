@@ -100,7 +100,7 @@ kept_too : {X : Type 0} (A : X → Type 0) (test : X → Bool) (x : X) (xs : Lis
 kept_too A test x xs true is a all = ((a, is), all)
 kept_too A test x xs false is a all = all
 
-all-kept : {X : Type 0} (A : X → Type 0) (test : X → Bool) (xs : List X) → AllByRecursion A xs → AllByRecursion (λ y. A y × (test y ≡ true)) (filter test xs)
+pub all-kept : {X : Type 0} (A : X → Type 0) (test : X → Bool) (xs : List X) → AllByRecursion A xs → AllByRecursion (λ y. A y × (test y ≡ true)) (filter test xs)
 all-kept A test [] all = tt
 all-kept A test (x ∷ xs) all = kept_too A test x (filter test xs) (test x) refl all.0 (all-kept A test xs all.1)
 

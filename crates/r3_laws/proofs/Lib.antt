@@ -65,3 +65,4 @@ pub mod Fitted
 pub mod FittedCases
 pub mod KeepsValid
 pub mod Light
+pub mod QueueRule

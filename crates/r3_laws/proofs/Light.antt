@@ -1,11 +1,8 @@
 -- The entry of an event that fits has few looks and writes.
-use Rattle.std.proofs.Common.{◌≡◌, ℕ, ◌+◌, ◌≤◌, ◌^◌, List, [], ◌∷◌, ◌++◌, length, map, take, Option, refl, sym, subst, ap, arith}
-use Rattle.std.specs.List.{enumerate_from}
+use Rattle.std.proofs.Common.{◌≡◌, ℕ, ◌≤◌, ◌^◌, List, length, map, take, Option, sym, subst, ap, arith}
 use Rattle.std.proofs.lemmas.List.{length-map}
 use Rattle.r3_value.specs.declared.value.Val.{Val}
 use Rattle.r3_value.specs.declared.value.Outcome.{Outcome}
-use Rattle.r3_rows.specs.declared.rows.Key.{Key}
-use Rattle.r3_rows.specs.declared.rows.Cell.{Cell}
 use Rattle.r3_rows.specs.declared.rows.StepRow.{StepRow}
 use Rattle.r3_rows.specs.declared.rows.StepKind.TheVariants as kinds
 use Rattle.r3_entry.specs.declared.entry.Entry.{Entry}
@@ -26,7 +23,7 @@ use Rattle.r3_model.specs.Lawful.{IsLawful}
 use Rattle.r3_laws.specs.OfEvents.{HasRows}
 use Rattle.r3_laws.specs.OfStates.{flows_in, IsLight}
 use Rattle.r3_laws.proofs.Agreeing.{fits-suits, rows-fit}
-use Rattle.r3_laws.proofs.Cases.{AskCase, commits, hears, bears, links, awaits, TurnCase, finishes, goes_on, Case, programs, loads, starts, enqueues, dequeues, turns, cancels, resumes, forks, recovers}
+use Rattle.r3_laws.proofs.Cases.{AskCase, commits, hears, bears, links, awaits, finishes, goes_on, Case, programs, loads, starts, enqueues, dequeues, turns, cancels, resumes, forks, recovers}
 use Rattle.r3_laws.proofs.CasesOf.{case-of}
 use Rattle.r3_laws.proofs.Fitted.{no-flows, copies-long, copies-flows, puts-long, puts-flows}
 use Rattle.r3_laws.proofs.FittedCases.{steps-few, take-few}

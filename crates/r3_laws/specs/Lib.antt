@@ -2,3 +2,4 @@ pub mod OfEvents
 pub mod OfStates
 pub mod OfHistories
 pub mod OfPrograms
+pub mod OfQueues

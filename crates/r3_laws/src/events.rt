@@ -1,6 +1,7 @@
 //! Laws of each event.
 
 ghost use Rattle.r3_laws.specs.OfEvents.{AsksUnrecorded, TellsItsEvent};
+ghost use Rattle.r3_laws.specs.OfQueues.{QueuesTell};
 
 /// An entry tells its event.
 pub fn tells_its_event()
@@ -10,4 +11,9 @@ pub fn tells_its_event()
 /// No recorded step is asked of the outside again.
 pub fn asks_unrecorded()
     ensures { AsksUnrecorded }
+{}
+
+/// What the rule of queues tells of the rows is what the machine does.
+pub fn queues_tell()
+    ensures { QueuesTell }
 {}

@@ -8,3 +8,4 @@ pub mod WorkedCalls
 pub mod WorkedReplay
 pub mod WorkedRetro
 pub mod WorkedForms
+pub mod WorkedDiffers

@@ -38,7 +38,8 @@ is_helper i = false
 abbrev pub helpers_of : List Item → List Item
 helpers_of is = filter_map (λ i. elim (is_helper i) [ true ↦ Some i | false ↦ None ]) is
 
--- the transaction is the same in both programs, and so are the helpers; there is no stored program where its text isn't accepted
+-- the transaction is the same in both programs, and so are the helpers; there is no stored program where its text
+-- isn't accepted
 pub record IsUnchanged (stored : Option (List Item)) (changed : List Item) (name : Text) : Type 0 where
   pub items : List Item
   pub accepted : stored ≡ Some items

@@ -1,4 +1,5 @@
--- Which events fit a history: a program comes first and never again, and commands keep the limits of their lines.
+-- Which events fit a history: a program comes first and never again, and commands keep the limits of
+-- their lines.
 use Rattle.std.specs.Prelude.{◌≡◌, ◌≢◌, ◌≤◌, IsTrue, List, [], length, All, ⊤}
 use Rattle.std.specs.Str.{is_utf8}
 use Rattle.r3_value.specs.declared.value.Val.{Val}

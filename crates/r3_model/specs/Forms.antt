@@ -88,7 +88,9 @@ abbrev pub of_size : ℕ → (Data → Option Line) → Data → Option Line
 of_size n form d = if option_map_or (λ ms. count_of ms == n) (as_object d) false then form d else None
 
 abbrev pub load_line : Data → Option Line
-load_line d = option_and_then (λ table. option_map (λ rows. Does (Run (Load table rows))) (rows_at (codes "rows") d)) (text_at (codes "load") d)
+load_line d =
+    option_and_then (λ table. option_map (λ rows. Does (Run (Load table rows)))
+    (rows_at (codes "rows") d)) (text_at (codes "load") d)
 
 abbrev pub start_line : Data → Option Line
 start_line d =
@@ -97,7 +99,8 @@ start_line d =
 
 abbrev pub enqueue_line : Data → Option Line
 enqueue_line d =
-    option_and_then (λ id. option_and_then (λ queue. option_and_then (λ function. option_map (λ args. Does (Run (Enqueue id queue function args)))
+    option_and_then (λ id. option_and_then (λ queue. option_and_then (λ function.
+    option_map (λ args. Does (Run (Enqueue id queue function args)))
     (args_at (codes "args") d)) (text_at (codes "fn") d)) (text_at (codes "queue") d)) (id_at (codes "enqueue") d)
 
 abbrev pub fork_line : Data → Option Line
@@ -106,7 +109,9 @@ fork_line d =
     (id_at (codes "to") d)) (number_at 0 1000 (codes "step") d)) (text_at (codes "fork") d)
 
 abbrev pub get_line : Data → Option Line
-get_line d = option_and_then (λ table. option_map (λ key. Does (GetRow table key)) (key_at (codes "key") d)) (text_at (codes "get") d)
+get_line d =
+    option_and_then (λ table. option_map (λ key. Does (GetRow table key)) (key_at (codes "key") d))
+    (text_at (codes "get") d)
 
 -- a form of one key, with a text
 abbrev pub one_text : Text → (Text → Event) → Data → Option Line
@@ -118,8 +123,10 @@ drain_line d = option_map (λ n. Drain n) (number_at 1 1000000 (codes "drain") d
 abbrev pub forms : List (Data → Option Line)
 forms =
     of_size 2 load_line ∷ of_size 3 start_line ∷ of_size 4 enqueue_line ∷ of_size 3 fork_line ∷ of_size 2 get_line
-    ∷ of_size 1 (one_text (codes "cancel") (λ id. Run (Cancel id))) ∷ of_size 1 (one_text (codes "resume") (λ id. Run (Resume id)))
-    ∷ of_size 1 (one_text (codes "turn") (λ id. Turn id)) ∷ of_size 1 (one_text (codes "dequeue") (λ queue. Dequeue queue))
+    ∷ of_size 1 (one_text (codes "cancel") (λ id. Run (Cancel id)))
+    ∷ of_size 1 (one_text (codes "resume") (λ id. Run (Resume id)))
+    ∷ of_size 1 (one_text (codes "turn") (λ id. Turn id))
+    ∷ of_size 1 (one_text (codes "dequeue") (λ queue. Dequeue queue))
     ∷ of_size 1 (one_text (codes "status") (λ id. ShowStatus id)) ∷ of_size 1 drain_line ∷ []
 
 abbrev pub line_or : Option Line → Line → Line

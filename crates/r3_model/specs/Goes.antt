@@ -1,4 +1,5 @@
--- The machine as a relation: from one state to another by events, with their replies and calls. A call tells its own answer.
+-- The machine as a relation: from one state to another by events, with their replies and calls.
+-- A call tells its own answer.
 use Rattle.std.specs.Prelude.{◌≡◌, List, [], ◌∷◌, ◌++◌, Option}
 use Rattle.r3_value.specs.declared.value.Outcome.{Outcome}
 use Rattle.r3_model.specs.Language.{Language}
@@ -14,6 +15,7 @@ pub record Steps (P : Language) (old : State) (ev : Event) (reply : Reply) (call
 abbrev pub Goes : Language → State → List Event → List Reply → List Call → State → Type 0
 Goes P old [] [] calls new = (new ≡ old) × (calls ≡ [])
 Goes P old (ev ∷ evs) (r ∷ rs) calls new =
-    (mid : State) × (first : List Call) × (later : List Call) × Steps P old ev r first mid × (calls ≡ first ++ later) × Goes P mid evs rs later new
+    (mid : State) × (first : List Call) × (later : List Call)
+    × Steps P old ev r first mid × (calls ≡ first ++ later) × Goes P mid evs rs later new
 Goes P old [] (r ∷ rs) calls new = ⊥
 Goes P old (ev ∷ evs) [] calls new = ⊥

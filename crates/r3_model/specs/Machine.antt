@@ -47,7 +47,8 @@ module _ (P : Language) (h : List Entry) where
   given (Turn id) snap answer = turned P h id snap answer
   given (Dequeue queue) snap answer = dequeued h P queue
   given (ShowStatus id) snap answer = Answers (shown id (flow_at h (length h) id))
-  given (GetRow table key) snap answer = if P.has_table table then Answers (got (row_at h (length h) table key)) else Answers (Refused UnknownTable)
+  given (GetRow table key) snap answer =
+      if P.has_table table then Answers (got (row_at h (length h) table key)) else Answers (Refused UnknownTable)
   given Nothing snap answer = Answers Nil
 
   abbrev pub call_with : Text → Option Outcome → Option Request → List Call

@@ -47,7 +47,8 @@ abbrev pub AreOwnUnwritten : List Entry → ℕ → Option Text → Type 0
 AreOwnUnwritten h snap None = ⊤
 AreOwnUnwritten h snap (Some id) = writer_past h snap (is_own id) ≡ None
 
--- The entry is the one that its event gives on the entries before it, on its own snapshot and with the outcome that it records.
+-- The entry is the one that its event gives on the entries before it, on its own snapshot and with the outcome
+-- that it records.
 pub record Agrees (P : Language) (h : List Entry) (e : Entry) : Type 0 where
   pub reply : Reply
   pub gives : given P h (event_of e) (Some e.snap) (recorded e e.act) ≡ Enters e reply

@@ -78,7 +78,8 @@ pub record IsRowLine (h g : List Entry) (l : RowLine) : Type 0 where
 -- one line for each user row that differs, by table and key
 pub record AreRowLines (h g : List Entry) (ls : List RowLine) : Type 0 where
   pub lines : AllByRecursion (IsRowLine h g) ls
-  pub each : (table key : Text) → row_in h table key ≢ row_in g table key → Contains (map (λ (l : RowLine). keys.User l.table l.key) ls) (keys.User table key)
+  pub each : (table key : Text) → row_in h table key ≢ row_in g table key
+      → Contains (map (λ (l : RowLine). keys.User l.table l.key) ls) (keys.User table key)
   pub rising : IsTrue (is_sorted key_cmp (map (λ (l : RowLine). (keys.User l.table l.key, tt {0})) ls))
 
 -- The report of a stored history and of the trail that retroaction left, from the stored functions, where they are

@@ -38,7 +38,8 @@ outcome_for c r = if is_outside r.kind && bytes_eq r.name c.name then Some r.out
 -- what the history records of a call
 abbrev pub recorded_answer : List Entry → Call → Option Outcome
 recorded_answer h c =
-    option_and_then (outcome_for c) (option_and_then (λ (e : Entry). step_written e c.id c.n) (find (λ (e : Entry). is_record c e.act) h))
+    option_and_then (outcome_for c)
+    (option_and_then (λ (e : Entry). step_written e c.id c.n) (find (λ (e : Entry). is_record c e.act) h))
 
 abbrev pub unrecorded : Outcome
 unrecorded = outcomes.Failure (codes "unrecorded")

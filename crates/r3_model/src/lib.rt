@@ -6,5 +6,10 @@
 #![tactic(auto)]
 
 mod laws;
+mod names;
 
 pub use laws::{drains_by_turns, only_appends, runs_in_parts};
+pub use names::made_id;
+
+#[cfg(test)]
+mod tests;
