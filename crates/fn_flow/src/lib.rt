@@ -8,8 +8,6 @@
 mod asks;
 mod find;
 mod run;
-#[cfg(test)]
-mod tests;
 
 pub use fn_tree::flow::{Answer, AskKind, FlowEnd, Request};
 pub use run::run_flow;

@@ -1,0 +1,7 @@
+pub mod RowKeys
+pub mod LogCode
+pub mod Journals
+pub mod Rows
+pub mod Held
+pub mod Texts
+pub mod Runs
