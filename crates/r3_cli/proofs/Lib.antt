@@ -1,3 +1,4 @@
+pub mod Refusals
 pub mod Going
-pub mod Names
 pub mod Running
+pub mod Reaching

@@ -1,2 +1,5 @@
-pub mod Words
+pub mod Functions
+pub mod Commands
+pub mod Statuses
+pub mod Counts
 pub mod Ends

@@ -109,9 +109,30 @@ fn each_refusal_has_its_status_and_last_line(rt: HostRuntime) -> Result<(), Fail
         (&["s", "run"], TINY, b"", 2, usage),
         (&["s", "run", "-f"], TINY, b"", 2, usage),
         (&["", "run", "acct.fn"], TINY, b"", 2, usage),
-        (RUN, b"table Acct;", b"", 12, unbuilt),
+        (
+            RUN,
+            b"table Acct;",
+            b"",
+            7,
+            b"{\"at\":6,\"fault\":\"functions\",\"kind\":\"lex\"}\n",
+        ),
+        (
+            RUN,
+            b"table acct",
+            b"",
+            7,
+            b"{\"at\":10,\"fault\":\"functions\",\"kind\":\"syntax\"}\n",
+        ),
+        (
+            RUN,
+            b"flow f() { return x; }",
+            b"",
+            7,
+            b"{\"fault\":\"functions\",\"item\":1,\"kind\":\"unbound\"}\n",
+        ),
         (RUN, TINY, b"XXXXXXXXXX", 12, unbuilt),
         (&["s", "run", "none.fn"], TINY, b"", 6, b""),
+        (&["s", "trace"], TINY, b"", 2, usage),
     ];
     for (words, text, image, status, last) in cases {
         let left = left_by(rt.alloc(), words, image, text, LOAD, &NONE)?;
@@ -119,6 +140,26 @@ fn each_refusal_has_its_status_and_last_line(rt: HostRuntime) -> Result<(), Fail
         assert_eq!(rt; left.said.as_slice(), last);
         assert_eq!(rt; left.image.as_slice(), image);
     }
+    Ok(())
+}
+
+#[test]
+fn check_counts_the_items_of_each_kind(rt: HostRuntime) -> Result<(), Fail> {
+    let text =
+        b"table a; table b; queue q 2; outside o(x); helper h(x) = x + 1; txn t(x) { put a[x] = h(1); return 1; } flow f(x) { let r = call t(x); return r; }";
+    let counts =
+        b"{\"flows\":1,\"helpers\":1,\"outsides\":1,\"queues\":1,\"tables\":2,\"txns\":1}\n";
+    let left = left_by(
+        rt.alloc(),
+        &["s", "check", "acct.fn"],
+        b"",
+        text,
+        b"",
+        &NONE,
+    )?;
+    assert_eq!(rt; left.status, 0);
+    assert_eq!(rt; left.said.as_slice(), counts.as_slice());
+    assert_eq!(rt; left.image.len(), 0);
     Ok(())
 }
 

@@ -1,15 +1,18 @@
 //! A durable execution engine on the command line.
 //!
-//! `top` is the whole program over any disk, output, script and function file; a contract sees its end as the run
-//! that `run_file` defines. `main` hands it the real ones.
+//! `top` is the whole program over any disk, output, script and function file; a contract sees its end as
+//! the one that the words, the files and the script reach. `main` hands it the real ones.
 #![tactic(auto)]
 
 #[cfg(test)]
 mod cases;
+mod checking;
+mod counts;
+mod functions;
+mod halt;
 mod lines;
 mod run;
 mod top;
-mod words;
 
 use crate::top::top;
 use r3_host::{HostDesk, HostShelf, HostSource};

@@ -5,3 +5,4 @@ pub mod Appends
 pub mod Loading
 pub mod Serving
 pub mod EmptyLog
+pub mod Tables

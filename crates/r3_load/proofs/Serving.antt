@@ -1,6 +1,6 @@
 -- A log stays as it is while something is said.
 use Rattle.std.proofs.Common.{◌≡◌, ℕ, ◌+◌, ◌≤◌, List, [], ◌∷◌, ◌++◌, map, length, Some, None, refl, sym, ap, subst, ◌∙◌, arith, length-append, append_assoc}
-use Rattle.std.specs.Prelude.{Bool, true, false, if◌then◌else◌, bytes_eq}
+use Rattle.std.specs.Prelude.{Bool, true, false, if◌then◌else◌}
 use Rattle.std.specs.Option.{option_map}
 use Rattle.std.specs.declared.option.Option.{Option}
 use Rattle.r3_desk.specs.Disk.{told_push}
@@ -9,6 +9,8 @@ use Rattle.r3_entry.specs.Bytes.{entry}
 use Rattle.r3_gate.specs.Gate.{Tracks}
 use Rattle.r3_gate.specs.declared.gate.Gate.{Gate}
 use Rattle.r3_gate.specs.declared.fault.Limit.{Limit}
+use Rattle.fn_tree.specs.declared.program.Item.{Item}
+use Rattle.fn_tree.specs.Declarations.{any, is_table}
 use Rattle.r3_load.specs.Texts.{Text}
 use Rattle.r3_load.specs.Lines.{Rows, Line, Unread, Unbuilt, Load}
 use Rattle.r3_load.specs.Loads.{after, full_of, load_entry, history_after}
@@ -39,11 +41,11 @@ either : (b : Bool) (h k : List Entry) → 1 ≤ length h → 1 ≤ length k →
 either true h k p q = p
 either false h k p q = q
 
-pub history_some : (name : Text) (h : List Entry) (line : Line) → 1 ≤ length h → 1 ≤ length (history_after name h line)
-history_some name h Unread some = some
-history_some name h Unbuilt some = some
-history_some name h (Load table rows) some =
-    either (bytes_eq table name) (after h (load_entry h name rows) (full_of h (load_entry h name rows))) h (after_some h (load_entry h name rows) (full_of h (load_entry h name rows)) some) some
+pub history_some : (items : List Item) (h : List Entry) (line : Line) → 1 ≤ length h → 1 ≤ length (history_after items h line)
+history_some items h Unread some = some
+history_some items h Unbuilt some = some
+history_some items h (Load table rows) some =
+    either (any (is_table table) items) (after h (load_entry h table rows) (full_of h (load_entry h table rows))) h (after_some h (load_entry h table rows) (full_of h (load_entry h table rows)) some) some
 
 pub pushed : (first : Option Text) (told more : Text) → told_push (told_push first told) more ≡ told_push first (told ++ more)
 pushed None told more = refl

@@ -1,5 +1,5 @@
 -- What a run of load lines says and leaves: the history with its Program entry and one Load entry for each accepted line.
-use Rattle.std.specs.Prelude.{ℕ, ◌+◌, ◌^◌, Bool, true, false, nat_le, nat_lt, List, [], ◌∷◌, ◌++◌, length, map, fold, flat_map, Option, Some, None, if◌then◌else◌, bytes_eq, codes}
+use Rattle.std.specs.Prelude.{ℕ, ◌+◌, ◌^◌, Bool, true, false, nat_le, nat_lt, List, [], ◌∷◌, ◌++◌, length, map, fold, flat_map, Option, Some, None, if◌then◌else◌, codes}
 use Rattle.std.specs.FinMap.Entries.{put}
 use Rattle.serde_json.specs.Data.{Data, number, unsigned, string, object, member, no_members}
 use Rattle.r3_json.specs.Lines as json
@@ -17,6 +17,8 @@ use Rattle.r3_gate.specs.declared.fault.Limit.{Limit}
 use Rattle.r3_gate.specs.declared.fault.Limit.TheVariants.{Entries, Bytes}
 use Rattle.r3_load.specs.declared.reply.Reply.{Reply}
 use Rattle.r3_load.specs.declared.reply.Reply.TheVariants.{Added, Full, NotRead, NotBuilt, UnknownTable}
+use Rattle.fn_tree.specs.declared.program.Item.{Item}
+use Rattle.fn_tree.specs.Declarations.{any, is_table}
 use Rattle.r3_load.specs.Texts.{Text}
 use Rattle.r3_load.specs.Lines.{Rows, Line, Unread, Unbuilt, Load, line_of}
 
@@ -75,18 +77,18 @@ abbrev pub reply_of : Option Limit → ℕ → Reply
 reply_of None n = Added n
 reply_of (Some limit) n = Full limit
 
--- the reply to a line, where the functions declare the table of this name
-abbrev pub reply_to : Text → List Entry → Line → Reply
-reply_to name h Unread = NotRead
-reply_to name h Unbuilt = NotBuilt
-reply_to name h (Load table rows) =
-    if bytes_eq table name then reply_of (full_of h (load_entry h name rows)) (length h + 1) else UnknownTable
+-- the reply to a line, with functions of these items
+abbrev pub reply_to : List Item → List Entry → Line → Reply
+reply_to items h Unread = NotRead
+reply_to items h Unbuilt = NotBuilt
+reply_to items h (Load table rows) =
+    if any (is_table table) items then reply_of (full_of h (load_entry h table rows)) (length h + 1) else UnknownTable
 
-abbrev pub history_after : Text → List Entry → Line → List Entry
-history_after name h Unread = h
-history_after name h Unbuilt = h
-history_after name h (Load table rows) =
-    if bytes_eq table name then after h (load_entry h name rows) (full_of h (load_entry h name rows)) else h
+abbrev pub history_after : List Item → List Entry → Line → List Entry
+history_after items h Unread = h
+history_after items h Unbuilt = h
+history_after items h (Load table rows) =
+    if any (is_table table) items then after h (load_entry h table rows) (full_of h (load_entry h table rows)) else h
 
 -- the history so far, and the bytes said
 pub record Told : Type 0 where
@@ -94,12 +96,12 @@ pub record Told : Type 0 where
   pub said : Text
 
 -- after one more line
-abbrev pub answered : Text → Told → Line → Told
-answered name told line = record {
-  history = history_after name told.history line;
-  said = told.said ++ reply_text (reply_to name told.history line);
+abbrev pub answered : List Item → Told → Line → Told
+answered items told line = record {
+  history = history_after items told.history line;
+  said = told.said ++ reply_text (reply_to items told.history line);
 }
 
--- a run from an empty history, with these functions and lines
-abbrev pub loaded : Text → Text → List Text → Told
-loaded name text lines = fold (λ told line. answered name told (line_of line)) (record { history = program_entry text ∷ []; said = [] }) lines
+-- a run from an empty history, with functions of these items and of this text, over these lines
+abbrev pub loaded : List Item → Text → List Text → Told
+loaded items text lines = fold (λ told line. answered items told (line_of line)) (record { history = program_entry text ∷ []; said = [] }) lines

@@ -4,7 +4,6 @@
 //! history and the reply after it. Which words and files a program takes is left to the crates above.
 #![tactic(auto)]
 
-mod functions;
 mod line;
 mod lines;
 mod loads;
@@ -14,7 +13,6 @@ mod stop;
 #[cfg(test)]
 mod tests;
 
-pub use functions::table_of;
 pub use line::{ScriptLine, read_line};
 pub use lines::{answer, serve};
 pub use loads::{append, writes_of};

@@ -1,10 +1,11 @@
 //! Answers to the lines of a script.
 
-ghost use Rattle.std.specs.Prelude.{◌≡◌, ◌⊎◌, ◌≤◌, ◌+◌, List, ℕ, Err, IfOk, OnOk, OnErr, length};
+ghost use Rattle.std.specs.Prelude.{◌≡◌, ◌⊎◌, ◌≤◌, ◌+◌, List, ℕ, true, false, None, Err, IfOk, IfSome, OnOk, OnErr, length};
 ghost use Rattle.std.specs.declared.option.Option.{Option};
 ghost use Rattle.r3_desk.specs.Causes.{Rose};
 ghost use Rattle.r3_entry.specs.declared.entry.Entry.{Entry};
 ghost use Rattle.r3_entry.specs.Limits.{IsName};
+ghost use Rattle.fn_tree.specs.Declarations.{any, is_table};
 ghost use Rattle.r3_load.specs.Texts.{Text};
 ghost use Rattle.r3_load.specs.Lines.{AreRows, IsKept, seen, line_of};
 ghost use Rattle.r3_load.specs.Loads.{Told, answered, after, full_of, load_entry, reply_of, reply_to, history_after};
@@ -14,12 +15,35 @@ use crate::line::{ScriptLine, read_line};
 use crate::loads::{append, writes_of};
 use crate::reply::{Reply, reply_text};
 use crate::stop::Stop;
+use fn_tree::checked::Checked;
+use fn_tree::program::Item;
 use r3_desk::Desk;
 use r3_entry::{Act, Entry, first_committer_wins};
 use r3_gate::Gate;
-use r3_value::{Txt, Val};
+use r3_value::{Memory, Txt, Val};
 use sqlite_items::Items;
 use std::alloc::Global;
+
+// Whether a table of this name is declared.
+fn declares(items: &[Item], name: &str) -> bool
+    ensures { result ≡ any (is_table name.now) items.now }
+{
+    'items: for item in items {
+        if is_table(item, name) {
+            return true;
+        }
+    }
+    false
+}
+
+fn is_table(item: &Item, name: &str) -> bool
+    ensures { result ≡ is_table name.now item.now }
+{
+    match item {
+        Item::Table { name: table } => table.as_str() == name,
+        _ => false,
+    }
+}
 
 // Adds the rows to the log, should there be room.
 fn load<D: Desk>(
@@ -58,20 +82,33 @@ fn load<D: Desk>(
     }
 }
 
+// The table of this name, where the program declares it.
+fn table_of(alloc: Global, program: &Checked, name: &str) -> Result<Option<Txt>, Memory>
+    ensures none { IfOk result (λ t. t ≡ None → any (is_table name.now) program.now ≡ false) }
+    ensures some { IfOk result (λ t. IfSome t (λ table. (any (is_table name.now) program.now ≡ true) × (table ≡ name.now) × IsName table)) }
+{
+    if !declares(program.program().items.as_slice(), name) {
+        return Ok(None);
+    }
+    match Txt::new(alloc, name) {
+        Ok(table) => Ok(Some(table)),
+        Err(_) => Err(Memory),
+    }
+}
+
 /// Does what a line says, and tells the reply.
 pub fn answer<D: Desk>(
     alloc: Global,
     gate: &mut Gate,
     desk: &mut D,
-    name: &Txt,
+    program: &Checked,
     line: ScriptLine,
 ) -> Result<Reply, Stop>
-    requires name { IsName name.now }
     requires kept { IsKept line }
     requires holds { (h : List Entry) × (1 ≤ length h) × Holds D.size D.image D.may_leave desk.old gate.old h }
     ensures answers { (h : List Entry) → 1 ≤ length h → Holds D.size D.image D.may_leave desk.old gate.old h →
-        IfOk result (λ reply. (reply ≡ reply_to name.now h (seen line))
-        × Holds D.size D.image D.may_leave desk.new gate.new (history_after name.now h (seen line))) }
+        IfOk result (λ reply. (reply ≡ reply_to program.now h (seen line))
+        × Holds D.size D.image D.may_leave desk.new gate.new (history_after program.now h (seen line))) }
     ensures stops { OnErr result ((result ≡ Err Stop.Memory) ⊎ (result ≡ Err Stop.Disk)) }
     ensures disk { result ≡ Err Stop.Disk → Rose (D.disk_faults desk.old) (D.disk_faults desk.new) }
     ensures disk_kept { (result ≡ Err Stop.Disk → ⊥) → D.disk_faults desk.new ≡ D.disk_faults desk.old }
@@ -82,10 +119,10 @@ pub fn answer<D: Desk>(
         ScriptLine::Unread => Ok(Reply::NotRead),
         ScriptLine::Unbuilt => Ok(Reply::NotBuilt),
         ScriptLine::Load { table, rows } => {
-            if table.as_str().as_bytes() != name.as_str().as_bytes() {
-                return Ok(Reply::UnknownTable);
+            match table_of(alloc, program, table.as_str())? {
+                None => Ok(Reply::UnknownTable),
+                Some(table) => load(alloc, gate, desk, &table, rows),
             }
-            load(alloc, gate, desk, name, rows)
         }
     }
 }
@@ -95,13 +132,12 @@ pub fn serve<D: Desk>(
     alloc: Global,
     gate: &mut Gate,
     desk: &mut D,
-    name: &Txt,
+    program: &Checked,
     line: &[u8],
 ) -> Result<(), Stop>
-    requires name { IsName name.now }
     requires stands { (first : Option Text) × (told : Told) × Stands D.size D.image D.may_leave D.said desk.old gate.old first told }
     ensures serves { (first : Option Text) (told : Told) → Stands D.size D.image D.may_leave D.said desk.old gate.old first told →
-        OnOk result (Stands D.size D.image D.may_leave D.said desk.new gate.new first (answered name.now told (line_of line.now))) }
+        OnOk result (Stands D.size D.image D.may_leave D.said desk.new gate.new first (answered program.now told (line_of line.now))) }
     ensures stops { OnErr result ((result ≡ Err Stop.Memory) ⊎ (result ≡ Err Stop.Disk) ⊎ (result ≡ Err Stop.Say)) }
     ensures disk { result ≡ Err Stop.Disk → Rose (D.disk_faults desk.old) (D.disk_faults desk.new) }
     ensures disk_kept { (result ≡ Err Stop.Disk → ⊥) → D.disk_faults desk.new ≡ D.disk_faults desk.old }
@@ -109,7 +145,7 @@ pub fn serve<D: Desk>(
     ensures say_kept { (result ≡ Err Stop.Say → ⊥) → D.say_faults desk.new ≡ D.say_faults desk.old }
 {
     let form = read_line(alloc, line)?;
-    let reply = answer(alloc, gate, desk, name, form)?;
+    let reply = answer(alloc, gate, desk, program, form)?;
     let text = reply_text(alloc, &reply)?;
     desk.say(&text)?;
     Ok(())

@@ -21,7 +21,7 @@ pub enum Stop {
     Input,
     /// The script or the function file is too long.
     Long,
-    /// The function file is of another form, or the store isn't empty.
+    /// The store isn't empty.
     Unbuilt,
 }
 

@@ -1,15 +1,5 @@
-use crate::{Reply, ScriptLine, read_line, reply_text, table_of};
+use crate::{Reply, ScriptLine, read_line, reply_text};
 use std::test::Fail;
-
-#[test]
-fn one_table_is_a_function_file(rt: HostRuntime) {
-    assert!(rt; table_of(b"table acct;").is_some());
-    // no newline, no reserved word, no capital letter, no other item
-    assert!(rt; table_of(b"table acct;\n").is_none());
-    assert!(rt; table_of(b"table flow;").is_none());
-    assert!(rt; table_of(b"table Acct;").is_none());
-    assert!(rt; table_of(b"queue mail 1;").is_none());
-}
 
 #[test]
 fn a_reply_is_compact_json_and_a_newline(rt: HostRuntime) -> Result<(), Fail> {

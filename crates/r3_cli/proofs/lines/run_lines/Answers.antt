@@ -3,10 +3,10 @@ use Rattle.r3_cli.proofs.Going.{no_more, too_long, one_more, has_all}
 use Rattle.r3_cli.specs.Ends.{after_lines}
 use Rattle.r3_cli.proofs.lines.run_lines.Goals as goal
 
-pub serve-requires-clause-stands : goal.serve-requires-clause-stands
-serve-requires-clause-stands g c =
+pub serve-requires : goal.serve-requires
+serve-requires g c =
     let going = c.lines.invariant.going in
-    (c.requires.stands.0, after_lines c.args.name.now c.requires.stands.1 going.handed, going.stands c.requires.stands.0 c.requires.stands.1 c.requires.stands.2)
+    record { stands = (c.requires.0, after_lines c.args.program.now c.requires.1 going.handed, going.stands c.requires.0 c.requires.1 c.requires.2) }
 
 pub returns-in-Ok-false-clause-runs : goal.returns-in-Ok-false-clause-runs
 returns-in-Ok-false-clause-runs g c =

@@ -1,28 +1,48 @@
-use Rattle.std.proofs.Common.{◌≡◌, Some, None, ap, ◌∙◌, subst}
+use Rattle.std.proofs.Common.{rules, ◌≡◌, ◌≤◌, ◌^◌, Some, None, List, Option, length, string_bytes, sym, ap, ◌∙◌, subst}
+use Rattle.fn_tree.specs.declared.program.Item.{Item}
 use Rattle.r3_load.specs.Texts.{Text}
+use Rattle.r3_load.specs.declared.stop.Stop.{Stop}
 use Rattle.r3_load.specs.declared.stop.Stop.TheVariants as stops
-use Rattle.r3_cli.specs.Ends.{Run, Comes}
-use Rattle.r3_cli.proofs.Running.{on_ok, same_some, of_file}
+use Rattle.r3_cli.specs.declared.halt.Halt.TheVariants as halts
+use Rattle.r3_cli.specs.Functions.{IsAccepted, IsRefused}
+use Rattle.r3_cli.specs.Ends.{End, Comes, Reaches, accepted, run_store}
+use Rattle.r3_cli.proofs.Reaching.{at_fetch, at_accept, at_store, stop_err}
 use Rattle.r3_cli.proofs.run.run.Goals as goal
 
-pub returns-clause-done : goal.returns-clause-done
-returns-clause-done g c = λ path text image script at there is left.
-    let same : c.in-Some.path.now ≡ path = same_some _ _ _ c.in-Some.ensures at in
-    let items : c.in_ok-text.text.items ≡ text = c.in_ok-text.ensures.text text (ap (λ (p : Text). g.F.Shelf.text_of c.args.shelf.now p) same ∙ there) in
-    on_ok c.run_text.result _ _
-    (subst (λ (r : Run). Comes r (g.D.Desk.said c.args.desk.now) (g.D.Desk.image c.args.desk.now) (g.D.Desk.said c.run_text.new.desk) (g.D.Desk.image c.run_text.new.desk) None) (of_file text c.in_ok-text.text.items image script items c.in_ok-text.ensures.short))
-    (c.run_text.ensures.done image script is left)
+pub returns-in-Err-clause-halted : goal.returns-in-Err-clause-halted
+returns-in-Err-clause-halted g c = λ text image script why there is left same refusal.
+    at_fetch (λ (items : List Item). run_store text items image script) text _ _ c.in-Err.halt why same refusal c.in-Err.ensures.stops (λ l. c.in-Err.ensures.long l text there)
 
-pub returns-clause-long : goal.returns-clause-long
-returns-clause-long g c = λ path text image script at there is left long.
-    let same : c.in-Some.path.now ≡ path = same_some _ _ _ c.in-Some.ensures at in
-    let items : c.in_ok-text.text.items ≡ text = c.in_ok-text.ensures.text text (ap (λ (p : Text). g.F.Shelf.text_of c.args.shelf.now p) same ∙ there) in
-    subst (λ (r : Run). Comes r (g.D.Desk.said c.args.desk.now) (g.D.Desk.image c.args.desk.now) (g.D.Desk.said c.run_text.new.desk) (g.D.Desk.image c.run_text.new.desk) (Some stops.Long)) (of_file text c.in_ok-text.text.items image script items c.in_ok-text.ensures.short)
-    (c.run_text.ensures.long image script is left long)
+pub returns-in-Err-accept-clause-halted : goal.returns-in-Err-accept-clause-halted
+returns-in-Err-accept-clause-halted g c = λ text image script why there is left same refusal.
+    let items : c.deref.result.now ≡ text = c.deref.ensures.value ∙ c.in-Ok.ensures.text text there in
+    let short : length text ≤ 2 ^ 20 = subst (λ (x : Text). length x ≤ 2 ^ 20) (c.in-Ok.ensures.text text there) c.in-Ok.ensures.short in
+    at_accept (λ (xs : List Item). run_store text xs image script) text _ _ c.in-Err-accept.halt why same refusal short c.in-Err-accept.ensures.halts
+    (λ fault at. subst (λ (x : Text). IsRefused x fault) items (c.in-Err-accept.ensures.refused fault at))
 
-pub returns-clause-unbuilt : goal.returns-clause-unbuilt
-returns-clause-unbuilt g c = λ path text image script at there is left unbuilt.
-    let same : c.in-Some.path.now ≡ path = same_some _ _ _ c.in-Some.ensures at in
-    let items : c.in_ok-text.text.items ≡ text = c.in_ok-text.ensures.text text (ap (λ (p : Text). g.F.Shelf.text_of c.args.shelf.now p) same ∙ there) in
-    subst (λ (r : Run). Comes r (g.D.Desk.said c.args.desk.now) (g.D.Desk.image c.args.desk.now) (g.D.Desk.said c.run_text.new.desk) (g.D.Desk.image c.run_text.new.desk) (Some stops.Unbuilt)) (of_file text c.in_ok-text.text.items image script items c.in_ok-text.ensures.short)
-    (c.run_text.ensures.unbuilt image script is left unbuilt)
+pub returns-in-Ok-run_store-clause-done : goal.returns-in-Ok-run_store-clause-done
+returns-in-Ok-run_store-clause-done g c = λ text image script there is left.
+    let same = c.in-Ok.ensures.text text there in
+    let items : c.deref.result.now ≡ text = c.deref.ensures.value ∙ same in
+    let short : length text ≤ 2 ^ 20 = subst (λ (x : Text). length x ≤ 2 ^ 20) same c.in-Ok.ensures.short in
+    let bytes : string_bytes c.in-Ok-from_utf8.text ≡ text = search (rules, same) in
+    let ok = subst (λ (x : Text). IsAccepted x c.in-Ok-accept.program) items c.in-Ok-accept.ensures.accepted in (
+      run_store text c.in-Ok-accept.program image script,
+      accepted c.in-Ok-accept.program short ok,
+      subst (λ (x : Text). Comes (run_store x c.in-Ok-accept.program image script) (g.D.Desk.said c.args.desk.now) (g.D.Desk.image c.args.desk.now) (g.D.Desk.said c.run_store.new.desk) (g.D.Desk.image c.run_store.new.desk) None) bytes
+          (c.in-Ok-run_store.ensures.done image script is left),
+    )
+
+pub returns-clause-halted : goal.returns-clause-halted
+returns-clause-halted g c = λ text image script why there is left halted refusal.
+    let same = c.in-Ok.ensures.text text there in
+    let items : c.deref.result.now ≡ text = c.deref.ensures.value ∙ same in
+    let short : length text ≤ 2 ^ 20 = subst (λ (x : Text). length x ≤ 2 ^ 20) same c.in-Ok.ensures.short in
+    let bytes : string_bytes c.in-Ok-from_utf8.text ≡ text = search (rules, same) in
+    let ok = subst (λ (x : Text). IsAccepted x c.in-Ok-accept.program) items c.in-Ok-accept.ensures.accepted in
+    at_store (λ (xs : List Item). run_store text xs image script) text _ _ c.in-Ok-accept.program c.in-Err-run_store.stop why _ _ (rw c.halt_of.ensures at halted) refusal short ok
+    (λ e. c.in-Err-run_store.ensures.usage (stop_err _ _ e))
+    (λ e. subst (λ (x : Text). Comes (run_store x c.in-Ok-accept.program image script) (g.D.Desk.said c.args.desk.now) (g.D.Desk.image c.args.desk.now) (g.D.Desk.said c.run_store.new.desk) (g.D.Desk.image c.run_store.new.desk) (Some halts.Long)) bytes
+    (c.in-Err-run_store.ensures.long image script is left (stop_err _ _ e)))
+    (λ e. subst (λ (x : Text). Comes (run_store x c.in-Ok-accept.program image script) (g.D.Desk.said c.args.desk.now) (g.D.Desk.image c.args.desk.now) (g.D.Desk.said c.run_store.new.desk) (g.D.Desk.image c.run_store.new.desk) (Some halts.Unbuilt)) bytes
+    (c.in-Err-run_store.ensures.unbuilt image script is left (stop_err _ _ e)))

@@ -1,22 +1,27 @@
-use Rattle.std.proofs.Common.{ℕ, inl, inr, ⊎_elim, sym, subst}
-use Rattle.r3_desk.specs.Causes.{Rose}
-use Rattle.r3_cli.proofs.Running.{ends_ok, ends_err, no_usage, err_of, stop_of}
+use Rattle.std.proofs.Common.{◌≡◌, ◌⊎◌, ℕ, List, Some, None, inl, inr, ⊎_elim, refl}
+use Rattle.fn_tree.specs.declared.program.Item.{Item}
+use Rattle.r3_load.specs.Texts.{Text}
+use Rattle.r3_cli.specs.Ends.{End, Reaches, counts_told, run_store}
+use Rattle.r3_cli.proofs.Running.{ends_ok, ends_err}
 use Rattle.r3_cli.proofs.top.top.Goals as goal
 
 pub returns-in-Ok-clause-runs : goal.returns-in-Ok-clause-runs
-returns-in-Ok-clause-runs g c = λ path text image lines at there is left.
-    inr (ends_ok _ _ _ _ _ (c.in-Ok.ensures.done path text image lines at there is left))
+returns-in-Ok-clause-runs g c = λ functions text image lines at there is left.
+    let came = c.in-Ok.ensures.runs functions text image lines at there is left in
+    inr (came.0, came.1, ends_ok came.0 _ _ _ _ came.2)
 
 pub returns-in-Err-clause-runs : goal.returns-in-Err-clause-runs
-returns-in-Err-clause-runs g c = λ path text image lines at there is left.
-    ⊎_elim (λ five. inl (inr (inr (inl five))))
-    (λ says. ends_err c.in-Err.stop _ _ _ (g.D.Desk.said c.run.new.desk) (g.D.Desk.image c.run.new.desk) _ _ _ (λ usage. no_usage _ path at (c.in-Err.ensures.usage.0 (err_of _ _ usage)))
-    (λ long. c.in-Err.ensures.long path text image lines at there is left (err_of _ _ long))
-    (λ unbuilt. c.in-Err.ensures.unbuilt path text image lines at there is left (err_of _ _ unbuilt)) says c.end.ensures.image)
+returns-in-Err-clause-runs g c = λ functions text image lines at there is left.
+    ⊎_elim (λ three. inl (inl three))
+    (λ rest. ⊎_elim (λ five. inl (inr (inr (inl five))))
+    (λ says. ends_err (λ (e : End). Reaches (λ (items : List Item). run_store text items image lines) text e) _ _ (g.D.Desk.said c.command.new.desk) (g.D.Desk.image c.command.new.desk) _ _ _ c.in-Err.halt
+    (λ refusal. c.in-Err.ensures.run_halts functions text image lines c.in-Err.halt at there is left refl refusal) says c.end.ensures.image) rest)
     c.end.ensures.says
 
-pub returns-in-Err-clause-say : goal.returns-in-Err-clause-say
-returns-in-Err-clause-say g c = λ five.
-    ⊎_elim (λ say. subst (λ (n : ℕ). Rose (g.D.Desk.say_faults c.args.desk.now) n) (sym say.1) (c.in-Err.ensures.say (err_of _ _ say.0)))
-    (λ rose. subst (λ (n : ℕ). Rose n (g.D.Desk.say_faults c.end.new.desk)) (c.in-Err.ensures.say_kept (λ e. rose.0 (stop_of _ _ e))) rose.1)
-    (c.end.ensures.say five)
+pub returns-in-Err-clause-checks : goal.returns-in-Err-clause-checks
+returns-in-Err-clause-checks g c = λ functions text at there.
+    ⊎_elim (λ three. inl (inl three))
+    (λ rest. ⊎_elim (λ five. inl (inr (inr (inl five))))
+    (λ says. ends_err (λ (e : End). Reaches counts_told text e) _ _ (g.D.Desk.said c.command.new.desk) (g.D.Desk.image c.command.new.desk) _ _ _ c.in-Err.halt
+    (λ refusal. c.in-Err.ensures.check_halts functions text c.in-Err.halt at there refl refusal) says c.end.ensures.image) rest)
+    c.end.ensures.says

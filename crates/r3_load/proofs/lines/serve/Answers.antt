@@ -11,18 +11,18 @@ use Rattle.r3_load.proofs.lines.serve.Goals as goal
 
 pub returns-clause-serves : goal.returns-clause-serves
 returns-clause-serves g c = λ first told stands.
-    let name = c.args.name.now in
+    let name = c.args.program.now in
     let h = told.history in
     let read = c.in_ok-form.ensures.read in
     let ok = c.in_ok-reply.ensures.answers h stands.some stands.holds in
     let say = c.say.ensures in
-    let text : c.deref.result.now ≡ reply_text (reply_to c.args.name.now told.history (line_of c.args.line.now)) =
-    c.deref.ensures.value ∙ c.in_ok-text.ensures ∙ ap (λ (r : Reply). reply_text r) (ok.0 ∙ ap (λ (l : Line). reply_to c.args.name.now told.history l) read) in
+    let text : c.deref.result.now ≡ reply_text (reply_to c.args.program.now told.history (line_of c.args.line.now)) =
+    c.deref.ensures.value ∙ c.in_ok-text.ensures ∙ ap (λ (r : Reply). reply_text r) (ok.0 ∙ ap (λ (l : Line). reply_to c.args.program.now told.history l) read) in
     let before = c.answer.ensures.said ∙ stands.said in
     record {
-      holds = holds_on _ _ _ _ _ _ _ (history_after c.args.name.now told.history (line_of c.args.line.now)) say.same_size say.image say.pending
+      holds = holds_on _ _ _ _ _ _ _ (history_after c.args.program.now told.history (line_of c.args.line.now)) say.same_size say.image say.pending
           (rw read at ok.1);
-      some = history_some c.args.name.now told.history (line_of c.args.line.now) stands.some;
+      some = history_some c.args.program.now told.history (line_of c.args.line.now) stands.some;
       said = c.in_ok-say.ensures.all ∙ ap (λ (s : Option Text). told_push s c.deref.result.now) before ∙ pushed first told.said c.deref.result.now
           ∙ ap (λ (t : Text). told_push first (told.said ++ t)) text;
     }

@@ -1,0 +1,9 @@
+pub mod BoolLemmas
+pub mod NameLemmas
+pub mod UseLemmas
+pub mod ExpressionLemmas
+pub mod StatementLemmas
+pub mod ProgramLemmas
+pub mod ReadableLemmas
+pub mod KnownLemmas
+pub mod PlaceLemmas

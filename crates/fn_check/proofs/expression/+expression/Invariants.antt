@@ -1,0 +1,20 @@
+-- Each measure is three times the size of what may be checked, with the rank of the function.
+use Rattle.std.proofs.Common.{◌≡◌, ◌+◌, ◌*◌, drop, take}
+use Rattle.std.specs.Prelude.{map, max}
+use Rattle.fn_tree.specs.declared.expr.Expr.{size-Expr}
+use Rattle.fn_check.specs.ExpressionCheck.{each_check, expr_check}
+use Rattle.fn_check.proofs.expression.+expression.Given as goal
+
+abbrev pub decreases-expression : goal.decreases-expression
+decreases-expression l = 3 * size-Expr l.e.now + 2
+
+abbrev pub decreases-both : goal.decreases-both
+decreases-both l = 3 * max (size-Expr l.a.now) (size-Expr l.b.now) + 3
+
+abbrev pub decreases-expressions : goal.decreases-expressions
+decreases-expressions l = 3 * goal.size-expressions l + 3
+
+abbrev pub invariant-expressions-loop-e : goal.invariant-expressions-loop-e
+invariant-expressions-loop-e l =
+    each_check (map (expr_check (take l.callable l.items) l.items) (drop l.e-index l.es)) l.scope
+    ≡ each_check (map (expr_check (take l.callable l.items) l.items) l.es) l.scope

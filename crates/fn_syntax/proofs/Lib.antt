@@ -1,0 +1,11 @@
+pub mod TableLemmas
+pub mod DerivationLemmas
+pub mod StepLemmas
+pub mod ViableLemmas
+pub mod ParseLemmas
+pub mod MachineLemmas
+pub mod NumberLemmas
+pub mod TextLemmas
+pub mod NameLemmas
+pub mod SupplyLemmas
+pub mod ReadableLemmas

@@ -1,0 +1,135 @@
+//! Why a call of the program ends before all is done.
+
+ghost use Rattle.std.specs.Prelude.{◌≡◌, IfOk};
+ghost use Rattle.serde_json.specs.View.{view};
+ghost use Rattle.r3_json.specs.Lines.{line_of};
+ghost use Rattle.r3_cli.specs.Functions.{kind_word, place_data, item_data, functions_data};
+ghost use Rattle.r3_cli.specs.Ends.{status_of, halt_of, last_line, one};
+
+use crate::functions::FunctionsFault;
+use fn_check::CheckKind;
+use r3_json::line;
+use r3_load::Stop;
+use r3_value::Memory;
+use serde_json::{Value, json};
+use std::alloc::{AllocError, Global};
+
+/// Why a call ends early. Each has an exit status of its own.
+#[derive(Clone, Copy, Debug, PartialEq, Eq)]
+pub enum Halt {
+    /// The words are no command.
+    Usage,
+    /// There was no memory.
+    Memory,
+    /// The disk has failed.
+    Disk,
+    /// The output has failed.
+    Say,
+    /// The script or the function file can't be read.
+    Input,
+    /// The function file is refused.
+    Functions { fault: FunctionsFault },
+    /// The script or the function file is too long.
+    Long,
+    /// The store isn't empty.
+    Unbuilt,
+}
+
+/// What stops a run over a store, as the program tells it.
+pub fn halt_of(stop: Stop) -> Halt
+    ensures { result ≡ halt_of stop }
+{
+    match stop {
+        Stop::Usage => Halt::Usage,
+        Stop::Memory => Halt::Memory,
+        Stop::Disk => Halt::Disk,
+        Stop::Say => Halt::Say,
+        Stop::Input => Halt::Input,
+        Stop::Long => Halt::Long,
+        Stop::Unbuilt => Halt::Unbuilt,
+    }
+}
+
+/// The exit status.
+pub fn status_of(halt: Halt) -> u8
+    ensures { result ≡ status_of halt }
+{
+    match halt {
+        Halt::Usage => 2,
+        Halt::Memory => 3,
+        Halt::Disk => 4,
+        Halt::Say => 5,
+        Halt::Input => 6,
+        Halt::Functions { .. } => 7,
+        Halt::Long => 10,
+        Halt::Unbuilt => 12,
+    }
+}
+
+fn kind_word(kind: CheckKind) -> &'static str
+    ensures { result.now ≡ kind_word kind }
+{
+    match kind {
+        CheckKind::DuplicateName => "duplicate_name",
+        CheckKind::UnknownName => "unknown_name",
+        CheckKind::Kind => "kind",
+        CheckKind::CallOrder => "call_order",
+        CheckKind::Arity => "arity",
+        CheckKind::Unbound => "unbound",
+    }
+}
+
+fn place_json(alloc: Global, at: u32, kind: &str) -> Result<Value, AllocError>
+    ensures { IfOk result (λ json. view json ≡ place_data at kind.now) }
+{
+    json!(in alloc; {"at": at, "fault": "functions", "kind": kind})
+}
+
+fn item_json(alloc: Global, item: u32, kind: &str) -> Result<Value, AllocError>
+    ensures { IfOk result (λ json. view json ≡ item_data item kind.now) }
+{
+    json!(in alloc; {"fault": "functions", "item": item, "kind": kind})
+}
+
+fn functions_json(alloc: Global, fault: FunctionsFault) -> Result<Value, AllocError>
+    ensures { IfOk result (λ json. view json ≡ functions_data fault) }
+{
+    match fault {
+        FunctionsFault::Lex { at } => place_json(alloc, at, "lex"),
+        FunctionsFault::Syntax { at } => place_json(alloc, at, "syntax"),
+        FunctionsFault::Check { item, kind } => item_json(alloc, item, kind_word(kind)),
+    }
+}
+
+fn functions_line(alloc: Global, fault: FunctionsFault) -> Result<Vec<u8>, Memory>
+    ensures { IfOk result (λ text. text.items ≡ last_line (Halt.Functions fault)) }
+{
+    let json = functions_json(alloc, fault)?;
+    line(alloc, &json)
+}
+
+fn word_json(alloc: Global, word: &str) -> Result<Value, AllocError>
+    ensures { IfOk result (λ json. view json ≡ one word.now) }
+{
+    json!(in alloc; {"fault": word})
+}
+
+fn word_line(alloc: Global, word: &str) -> Result<Vec<u8>, Memory>
+    ensures { IfOk result (λ text. text.items ≡ line_of (one word.now)) }
+{
+    let json = word_json(alloc, word)?;
+    line(alloc, &json)
+}
+
+/// What is said last; nothing after a fault.
+pub fn last_line(alloc: Global, halt: Halt) -> Result<Vec<u8>, Memory>
+    ensures { IfOk result (λ text. text.items ≡ last_line halt) }
+{
+    match halt {
+        Halt::Usage => word_line(alloc, "usage"),
+        Halt::Functions { fault } => functions_line(alloc, fault),
+        Halt::Long => word_line(alloc, "long"),
+        Halt::Unbuilt => word_line(alloc, "unbuilt"),
+        _ => Ok(Vec::new(alloc)),
+    }
+}
