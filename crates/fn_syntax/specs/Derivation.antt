@@ -14,8 +14,8 @@ use Rattle.fn_syntax.specs.Letters.{Letter, fits}
 use Rattle.fn_syntax.specs.Grammar.{rules}
 use Rattle.fn_syntax.specs.Trees.{Trees, no_trees, list, made}
 
--- What was read so far: the trees, how many brackets are open, and how many tokens the expression has that
--- is open and stands in no other.
+-- What was read so far: the trees, how many brackets are open, and how many tokens the expression
+-- has that is open and stands in no other.
 pub record State : Type 0 where
   pub trees : Trees
   pub depth : ℕ
@@ -85,7 +85,8 @@ pushed Text x t = record t { exprs = tree.Text (denoted x.word) ∷ t.exprs }
 pushed s x t = t
 
 abbrev pub after_letter : Symbol → Letter → State → State
-after_letter s x v = record { trees = pushed s x v.trees; depth = depth_after s v.depth; used = one_more v.used }
+after_letter s x v =
+    record { trees = pushed s x v.trees; depth = depth_after s v.depth; used = one_more v.used }
 
 abbrev pub after_make : Action → State → State
 after_make a v = record v { trees = made a v.trees }
@@ -101,14 +102,21 @@ abbrev pub IsOneOf : List (List Symbol) → List Symbol → Type 0
 IsOneOf [] r = ⊥
 IsOneOf (q ∷ qs) r = (q ≡ r) ⊎ IsOneOf qs r
 
--- From a state these symbols may be written as these letters, and lead to a state. A part is written by any of its rules.
+-- From a state these symbols may be written as these letters, and lead to a state. A part is
+-- written by any of its rules.
 pub data Derives : List Symbol → State → List Letter → State → Type 0 where
   done : {v : State} → Derives [] v [] v
-  read : {todo : List Symbol} {v w : State} {xs : List Letter} (s : Symbol) (x : Letter) → fits s x ≡ true → (x.free ≡ true) ⊎ (over s v ≡ false) → Derives todo (after_letter s x v) xs w → Derives (s ∷ todo) v (x ∷ xs) w
-  make : {todo : List Symbol} {v w : State} {xs : List Letter} (a : Action) → Derives todo (after_make a v) xs w → Derives (Make a ∷ todo) v xs w
-  begin : {todo : List Symbol} {v w : State} {xs : List Letter} → Derives todo (after_begin v) xs w → Derives (Begin ∷ todo) v xs w
-  end : {todo : List Symbol} {v w : State} {xs : List Letter} → Derives todo (after_end v) xs w → Derives (End ∷ todo) v xs w
-  by_rule : {todo : List Symbol} {v w : State} {xs : List Letter} (p : Nonterminal) (r : List Symbol) → IsOneOf (rules p) r → Derives (r ++ todo) v xs w → Derives (Part p ∷ todo) v xs w
+  read : {todo : List Symbol} {v w : State} {xs : List Letter} (s : Symbol) (x : Letter)
+      → fits s x ≡ true → (x.free ≡ true) ⊎ (over s v ≡ false)
+      → Derives todo (after_letter s x v) xs w → Derives (s ∷ todo) v (x ∷ xs) w
+  make : {todo : List Symbol} {v w : State} {xs : List Letter} (a : Action)
+      → Derives todo (after_make a v) xs w → Derives (Make a ∷ todo) v xs w
+  begin : {todo : List Symbol} {v w : State} {xs : List Letter}
+      → Derives todo (after_begin v) xs w → Derives (Begin ∷ todo) v xs w
+  end : {todo : List Symbol} {v w : State} {xs : List Letter} → Derives todo (after_end v) xs w
+      → Derives (End ∷ todo) v xs w
+  by_rule : {todo : List Symbol} {v w : State} {xs : List Letter} (p : Nonterminal) (r : List Symbol)
+      → IsOneOf (rules p) r → Derives (r ++ todo) v xs w → Derives (Part p ∷ todo) v xs w
 
 -- the letters are a program of these items
 abbrev pub IsProgram : List Letter → List Item → Type 0

@@ -16,12 +16,18 @@ use Rattle.fn_syntax.specs.declared.symbol.Symbol.TheVariants.{Fixed, Name, Para
 -- the rules of a part
 abbrev pub rules : Nonterminal → List (List Symbol)
 rules part.Items =
-    (Fixed lex.Table ∷ Name ∷ Fixed lex.Semicolon ∷ Make (act.Item item_kind.Table) ∷ Part part.Items ∷ []) ∷
-    (Fixed lex.Queue ∷ Name ∷ Bound ∷ Fixed lex.Semicolon ∷ Make (act.Item item_kind.Queue) ∷ Part part.Items ∷ []) ∷
-    (Fixed lex.Outside ∷ Name ∷ Part part.Params ∷ Fixed lex.Semicolon ∷ Make (act.Item item_kind.Outside) ∷ Part part.Items ∷ []) ∷
-    (Fixed lex.Helper ∷ Name ∷ Part part.Params ∷ Fixed lex.Assign ∷ Part part.Outer ∷ Fixed lex.Semicolon ∷ Make (act.Item item_kind.Helper) ∷ Part part.Items ∷ []) ∷
-    (Fixed lex.Txn ∷ Name ∷ Part part.Params ∷ Part part.Block ∷ Make (act.Item item_kind.Txn) ∷ Part part.Items ∷ []) ∷
-    (Fixed lex.Flow ∷ Name ∷ Part part.Params ∷ Part part.Block ∷ Make (act.Item item_kind.Flow) ∷ Part part.Items ∷ []) ∷
+    (Fixed lex.Table ∷ Name ∷ Fixed lex.Semicolon ∷ Make (act.Item item_kind.Table) ∷
+    Part part.Items ∷ []) ∷
+    (Fixed lex.Queue ∷ Name ∷ Bound ∷ Fixed lex.Semicolon ∷ Make (act.Item item_kind.Queue) ∷
+    Part part.Items ∷ []) ∷
+    (Fixed lex.Outside ∷ Name ∷ Part part.Params ∷ Fixed lex.Semicolon ∷
+    Make (act.Item item_kind.Outside) ∷ Part part.Items ∷ []) ∷
+    (Fixed lex.Helper ∷ Name ∷ Part part.Params ∷ Fixed lex.Assign ∷ Part part.Outer ∷
+    Fixed lex.Semicolon ∷ Make (act.Item item_kind.Helper) ∷ Part part.Items ∷ []) ∷
+    (Fixed lex.Txn ∷ Name ∷ Part part.Params ∷ Part part.Block ∷
+    Make (act.Item item_kind.Txn) ∷ Part part.Items ∷ []) ∷
+    (Fixed lex.Flow ∷ Name ∷ Part part.Params ∷ Part part.Block ∷
+    Make (act.Item item_kind.Flow) ∷ Part part.Items ∷ []) ∷
     ([]) ∷
     []
 rules part.Params =
@@ -39,17 +45,27 @@ rules part.Block =
     (Fixed lex.OpenBrace ∷ Make act.Empty ∷ Part part.Stmts ∷ []) ∷
     []
 rules part.Stmts =
-    (Fixed lex.Let ∷ Name ∷ Fixed lex.Assign ∷ Part part.Rhs ∷ Fixed lex.Semicolon ∷ Make (act.Stmt stmt_kind.Let) ∷ Part part.Stmts ∷ []) ∷
-    (Fixed lex.Set ∷ Name ∷ Fixed lex.Assign ∷ Part part.Rhs ∷ Fixed lex.Semicolon ∷ Make (act.Stmt stmt_kind.Set) ∷ Part part.Stmts ∷ []) ∷
-    (Fixed lex.Do ∷ Part part.Ask ∷ Fixed lex.Semicolon ∷ Make (act.Stmt stmt_kind.Do) ∷ Part part.Stmts ∷ []) ∷
-    (Fixed lex.Put ∷ Name ∷ Part part.Key ∷ Fixed lex.Assign ∷ Part part.Outer ∷ Fixed lex.Semicolon ∷ Make (act.Stmt stmt_kind.Put) ∷ Part part.Stmts ∷ []) ∷
-    (Fixed lex.Delete ∷ Name ∷ Part part.Key ∷ Fixed lex.Semicolon ∷ Make (act.Stmt stmt_kind.Delete) ∷ Part part.Stmts ∷ []) ∷
+    (Fixed lex.Let ∷ Name ∷ Fixed lex.Assign ∷ Part part.Rhs ∷ Fixed lex.Semicolon ∷
+    Make (act.Stmt stmt_kind.Let) ∷ Part part.Stmts ∷ []) ∷
+    (Fixed lex.Set ∷ Name ∷ Fixed lex.Assign ∷ Part part.Rhs ∷ Fixed lex.Semicolon ∷
+    Make (act.Stmt stmt_kind.Set) ∷ Part part.Stmts ∷ []) ∷
+    (Fixed lex.Do ∷ Part part.Ask ∷ Fixed lex.Semicolon ∷ Make (act.Stmt stmt_kind.Do) ∷
+    Part part.Stmts ∷ []) ∷
+    (Fixed lex.Put ∷ Name ∷ Part part.Key ∷ Fixed lex.Assign ∷ Part part.Outer ∷
+    Fixed lex.Semicolon ∷ Make (act.Stmt stmt_kind.Put) ∷ Part part.Stmts ∷ []) ∷
+    (Fixed lex.Delete ∷ Name ∷ Part part.Key ∷ Fixed lex.Semicolon ∷
+    Make (act.Stmt stmt_kind.Delete) ∷ Part part.Stmts ∷ []) ∷
     (Fixed lex.If ∷ Part part.Outer ∷ Part part.Block ∷ Part part.Else ∷ Part part.Stmts ∷ []) ∷
-    (Fixed lex.While ∷ Part part.Outer ∷ Part part.Block ∷ Make (act.Stmt stmt_kind.While) ∷ Part part.Stmts ∷ []) ∷
-    (Fixed lex.Each ∷ Name ∷ Fixed lex.In ∷ Part part.Outer ∷ Part part.Block ∷ Make (act.Stmt stmt_kind.Each) ∷ Part part.Stmts ∷ []) ∷
-    (Fixed lex.Try ∷ Part part.Block ∷ Fixed lex.Catch ∷ Name ∷ Part part.Block ∷ Make (act.Stmt stmt_kind.Try) ∷ Part part.Stmts ∷ []) ∷
-    (Fixed lex.Return ∷ Part part.Outer ∷ Fixed lex.Semicolon ∷ Make (act.Stmt stmt_kind.Return) ∷ Part part.Stmts ∷ []) ∷
-    (Fixed lex.Fail ∷ Part part.Outer ∷ Fixed lex.Semicolon ∷ Make (act.Stmt stmt_kind.Fail) ∷ Part part.Stmts ∷ []) ∷
+    (Fixed lex.While ∷ Part part.Outer ∷ Part part.Block ∷ Make (act.Stmt stmt_kind.While) ∷
+    Part part.Stmts ∷ []) ∷
+    (Fixed lex.Each ∷ Name ∷ Fixed lex.In ∷ Part part.Outer ∷ Part part.Block ∷
+    Make (act.Stmt stmt_kind.Each) ∷ Part part.Stmts ∷ []) ∷
+    (Fixed lex.Try ∷ Part part.Block ∷ Fixed lex.Catch ∷ Name ∷ Part part.Block ∷
+    Make (act.Stmt stmt_kind.Try) ∷ Part part.Stmts ∷ []) ∷
+    (Fixed lex.Return ∷ Part part.Outer ∷ Fixed lex.Semicolon ∷
+    Make (act.Stmt stmt_kind.Return) ∷ Part part.Stmts ∷ []) ∷
+    (Fixed lex.Fail ∷ Part part.Outer ∷ Fixed lex.Semicolon ∷ Make (act.Stmt stmt_kind.Fail) ∷
+    Part part.Stmts ∷ []) ∷
     (Fixed lex.CloseBrace ∷ []) ∷
     []
 rules part.Else =
@@ -60,11 +76,15 @@ rules part.Key =
     (Fixed lex.OpenBracket ∷ Part part.Outer ∷ Fixed lex.CloseBracket ∷ []) ∷
     []
 rules part.Rhs =
-    (Fixed lex.Call ∷ Name ∷ Part part.Args ∷ Make (act.Bind bind_kind.Call) ∷ Make (act.Bind bind_kind.Asked) ∷ []) ∷
-    (Fixed lex.Spawn ∷ Name ∷ Part part.Args ∷ Make (act.Bind bind_kind.Spawn) ∷ Make (act.Bind bind_kind.Asked) ∷ []) ∷
-    (Fixed lex.Await ∷ Part part.Outer ∷ Make (act.Bind bind_kind.Await) ∷ Make (act.Bind bind_kind.Asked) ∷ []) ∷
+    (Fixed lex.Call ∷ Name ∷ Part part.Args ∷ Make (act.Bind bind_kind.Call) ∷
+    Make (act.Bind bind_kind.Asked) ∷ []) ∷
+    (Fixed lex.Spawn ∷ Name ∷ Part part.Args ∷ Make (act.Bind bind_kind.Spawn) ∷
+    Make (act.Bind bind_kind.Asked) ∷ []) ∷
+    (Fixed lex.Await ∷ Part part.Outer ∷ Make (act.Bind bind_kind.Await) ∷
+    Make (act.Bind bind_kind.Asked) ∷ []) ∷
     (Fixed lex.Get ∷ Name ∷ Part part.Key ∷ Make (act.Bind bind_kind.Get) ∷ []) ∷
-    (Fixed lex.Scan ∷ Name ∷ Fixed lex.OpenBracket ∷ Part part.Outer ∷ Fixed lex.Comma ∷ Part part.Outer ∷ Fixed lex.CloseBracket ∷ Make (act.Bind bind_kind.Scan) ∷ []) ∷
+    (Fixed lex.Scan ∷ Name ∷ Fixed lex.OpenBracket ∷ Part part.Outer ∷ Fixed lex.Comma ∷
+    Part part.Outer ∷ Fixed lex.CloseBracket ∷ Make (act.Bind bind_kind.Scan) ∷ []) ∷
     (Part part.Outer ∷ Make (act.Bind bind_kind.Plain) ∷ []) ∷
     []
 rules part.Ask =
@@ -139,9 +159,12 @@ rules part.Unary =
     (Fixed lex.True ∷ Make act.True ∷ Part part.Indexes ∷ []) ∷
     (Fixed lex.False ∷ Make act.False ∷ Part part.Indexes ∷ []) ∷
     (Name ∷ Part part.Named ∷ Part part.Indexes ∷ []) ∷
-    (Fixed lex.Len ∷ Fixed lex.OpenParen ∷ Part part.Expr ∷ Fixed lex.CloseParen ∷ Make (act.One one.Len) ∷ Part part.Indexes ∷ []) ∷
-    (Fixed lex.Str ∷ Fixed lex.OpenParen ∷ Part part.Expr ∷ Fixed lex.CloseParen ∷ Make (act.One one.Str) ∷ Part part.Indexes ∷ []) ∷
-    (Fixed lex.OpenBracket ∷ Make act.NoExprs ∷ Part part.ListItems ∷ Make act.List ∷ Part part.Indexes ∷ []) ∷
+    (Fixed lex.Len ∷ Fixed lex.OpenParen ∷ Part part.Expr ∷ Fixed lex.CloseParen ∷
+    Make (act.One one.Len) ∷ Part part.Indexes ∷ []) ∷
+    (Fixed lex.Str ∷ Fixed lex.OpenParen ∷ Part part.Expr ∷ Fixed lex.CloseParen ∷
+    Make (act.One one.Str) ∷ Part part.Indexes ∷ []) ∷
+    (Fixed lex.OpenBracket ∷ Make act.NoExprs ∷ Part part.ListItems ∷ Make act.List ∷
+    Part part.Indexes ∷ []) ∷
     (Fixed lex.OpenParen ∷ Part part.Expr ∷ Fixed lex.CloseParen ∷ Part part.Indexes ∷ []) ∷
     []
 rules part.Named =
@@ -149,7 +172,8 @@ rules part.Named =
     (Make act.Variable ∷ []) ∷
     []
 rules part.Indexes =
-    (Fixed lex.OpenBracket ∷ Part part.Expr ∷ Fixed lex.CloseBracket ∷ Make (act.Two two.Index) ∷ Part part.Indexes ∷ []) ∷
+    (Fixed lex.OpenBracket ∷ Part part.Expr ∷ Fixed lex.CloseBracket ∷
+    Make (act.Two two.Index) ∷ Part part.Indexes ∷ []) ∷
     ([]) ∷
     []
 rules part.ParenList =

@@ -9,7 +9,18 @@ use Rattle.fn_syntax.specs.Derivation.{State}
 use Rattle.fn_syntax.specs.Steps.{AllTame, Same, Went, Refuses, effort}
 
 abbrev pub trees_of : Held → Trees
-trees_of t = record { names = t.names; lists = t.lists; bounds = t.bounds; exprs = t.exprs; groups = t.groups; asks = t.asks; rights = t.rights; blocks = t.blocks; items = t.items.items }
+trees_of t =
+    record {
+      names = t.names;
+      lists = t.lists;
+      bounds = t.bounds;
+      exprs = t.exprs;
+      groups = t.groups;
+      asks = t.asks;
+      rights = t.rights;
+      blocks = t.blocks;
+      items = t.items.items;
+    }
 
 abbrev pub state_of : Parser → State
 state_of p = record { trees = trees_of p.trees; depth = p.depth; used = p.used }

@@ -1,11 +1,13 @@
--- Where a text is refused: at the first token with which the grammar can't go on, or that passes a limit.
+-- Where a text is refused: at the first token with which the grammar can't go on, or that passes a
+-- limit.
 use Rattle.std.specs.Prelude.{◌≡◌, ℕ, List, [], ◌∷◌, ◌++◌, length, drop}
 use Rattle.fn_lex.specs.declared.span.Token.{Token}
 use Rattle.fn_tree.specs.declared.program.Item.{Item}
 use Rattle.fn_syntax.specs.Letters.{Letter, letters}
 use Rattle.fn_syntax.specs.Derivation.{IsProgram}
 
--- these letters keep the limits, and the grammar can go on behind them, with letters of which no limit is asked
+-- these letters keep the limits, and the grammar can go on behind them, with letters of which no
+-- limit is asked
 abbrev pub CanGoOn : List Letter → Type 0
 CanGoOn front = (more : List Letter) × (items : List Item) × IsProgram (front ++ more) items
 

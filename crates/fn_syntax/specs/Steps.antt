@@ -1,4 +1,5 @@
--- How the parser goes through the grammar: which rule of a part the next token chooses, and why no other one can do.
+-- How the parser goes through the grammar: which rule of a part the next token chooses, and why no
+-- other one can do.
 -- No public contract cites this.
 use Rattle.std.specs.Prelude.{◌≡◌, ℕ, suc, ◌+◌, ◌↔◌, List, [], ◌∷◌, Option, Some, None, Bool, true, false, nat_le, if◌then◌else◌}
 use Rattle.fn_syntax.specs.declared.lexeme.Lexeme.{Lexeme}
@@ -79,7 +80,9 @@ greedy p l = nat_le (level p) (rank l)
 
 -- nothing that may follow begins with what would belong to the part
 abbrev pub Tame : Nonterminal → List Symbol → Type 0
-Tame p todo = (l : Lexeme) → greedy p l ≡ true → (x : Letter) (v w : State) (xs : List Letter) → fits (Fixed l) x ≡ true → Derives todo v (x ∷ xs) w → ⊥
+Tame p todo =
+    (l : Lexeme) → greedy p l ≡ true → (x : Letter) (v w : State) (xs : List Letter)
+    → fits (Fixed l) x ≡ true → Derives todo v (x ∷ xs) w → ⊥
 
 abbrev pub AllTame : List Symbol → Type 0
 AllTame [] = Unit {0}
@@ -94,7 +97,8 @@ input (Some x) xs = x ∷ xs
 -- What was ahead is what is ahead now, behind the next letter; at the end nothing is ahead.
 abbrev pub Went : Option Letter → List Symbol → State → List Symbol → State → Type 0
 Went None todo v more u = (w : State) → Derives todo v [] w ↔ (w ≡ u)
-Went (Some x) todo v more u = (w : State) (xs : List Letter) → Derives todo v (x ∷ xs) w ↔ Derives more u xs w
+Went (Some x) todo v more u =
+    (w : State) (xs : List Letter) → Derives todo v (x ∷ xs) w ↔ Derives more u xs w
 
 -- nothing is ahead that begins with the next letter
 abbrev pub Refuses : Option Letter → List Symbol → State → Type 0
@@ -102,7 +106,9 @@ Refuses next todo v = (w : State) (xs : List Letter) → Derives todo v (input n
 
 -- before the next letter it is the same ahead
 abbrev pub Same : Option Letter → List Symbol → State → List Symbol → State → Type 0
-Same next todo v more u = (w : State) (xs : List Letter) → Derives todo v (input next xs) w ↔ Derives more u (input next xs) w
+Same next todo v more u =
+    (w : State) (xs : List Letter)
+    → Derives todo v (input next xs) w ↔ Derives more u (input next xs) w
 
 -- a token is read by this symbol
 abbrev pub is_terminal : Symbol → Bool

@@ -1,5 +1,5 @@
--- The trees of the parts that were read: a stack of each kind, and the items. A rule's symbols leave there
--- what `Make` takes, so the trees that are named for an empty stack never come up.
+-- The trees of the parts that were read: a stack of each kind, and the items. A rule's symbols
+-- leave there what `Make` takes, so the trees that are named for an empty stack never come up.
 use Rattle.std.specs.Prelude.{ℕ, List, [], ◌∷◌, ◌++◌, Option, Some, None, false}
 use Rattle.fn_tree.specs.declared.expr.Expr.{Expr}
 use Rattle.fn_tree.specs.declared.expr.Expr as tree
@@ -24,7 +24,8 @@ use Rattle.fn_syntax.specs.declared.symbol.Statement.TheVariants as stmt_kind
 use Rattle.fn_syntax.specs.declared.symbol.Binding.{Binding}
 use Rattle.fn_syntax.specs.declared.symbol.Binding.TheVariants as bind_kind
 
--- names and lists of them, numbers of queues, expressions and lists of them, steps, right sides, blocks; and the items
+-- names and lists of them, numbers of queues, expressions and lists of them, steps, right sides,
+-- blocks; and the items
 pub record Trees : Type 0 where
   pub names : List (List ℕ)
   pub lists : List (List (List ℕ))
@@ -37,7 +38,18 @@ pub record Trees : Type 0 where
   pub items : List Item
 
 abbrev pub no_trees : Trees
-no_trees = record { names = []; lists = []; bounds = []; exprs = []; groups = []; asks = []; rights = []; blocks = []; items = [] }
+no_trees =
+    record {
+      names = [];
+      lists = [];
+      bounds = [];
+      exprs = [];
+      groups = [];
+      asks = [];
+      rights = [];
+      blocks = [];
+      items = [];
+    }
 
 -- the first, and the others
 abbrev pub first : {X : Type 0} → X → List X → X
@@ -114,37 +126,127 @@ node_of_one one.Str a = tree.Str a
 
 -- a statement is put behind the others of its block
 abbrev pub statement_made : Statement → Trees → Trees
-statement_made stmt_kind.Let t = record t { names = rest t.names; rights = rest t.rights; blocks = onto (stmt.Let (name t) (rhs t)) t.blocks }
-statement_made stmt_kind.Set t = record t { names = rest t.names; rights = rest t.rights; blocks = onto (stmt.Set (name t) (rhs t)) t.blocks }
+statement_made stmt_kind.Let t =
+    record t {
+      names = rest t.names;
+      rights = rest t.rights;
+      blocks = onto (stmt.Let (name t) (rhs t)) t.blocks;
+    }
+statement_made stmt_kind.Set t =
+    record t {
+      names = rest t.names;
+      rights = rest t.rights;
+      blocks = onto (stmt.Set (name t) (rhs t)) t.blocks;
+    }
 statement_made stmt_kind.Do t = record t { asks = rest t.asks; blocks = onto (stmt.Do (ask t)) t.blocks }
-statement_made stmt_kind.Put t = record t { names = rest t.names; exprs = rest (rest t.exprs); blocks = onto (stmt.Put (name t) (expr_below t) (expr t)) t.blocks }
-statement_made stmt_kind.Delete t = record t { names = rest t.names; exprs = rest t.exprs; blocks = onto (stmt.Delete (name t) (expr t)) t.blocks }
-statement_made stmt_kind.If t = record t { exprs = rest t.exprs; blocks = onto (stmt.If (expr t) (block t) None) (rest t.blocks) }
-statement_made stmt_kind.IfElse t = record t { exprs = rest t.exprs; blocks = onto (stmt.If (expr t) (block_below t) (Some (block t))) (rest (rest t.blocks)) }
-statement_made stmt_kind.While t = record t { exprs = rest t.exprs; blocks = onto (stmt.While (expr t) (block t)) (rest t.blocks) }
-statement_made stmt_kind.Each t = record t { names = rest t.names; exprs = rest t.exprs; blocks = onto (stmt.Each (name t) (expr t) (block t)) (rest t.blocks) }
-statement_made stmt_kind.Try t = record t { names = rest t.names; blocks = onto (stmt.Try (block_below t) (name t) (block t)) (rest (rest t.blocks)) }
-statement_made stmt_kind.Return t = record t { exprs = rest t.exprs; blocks = onto (stmt.Return (expr t)) t.blocks }
-statement_made stmt_kind.Fail t = record t { exprs = rest t.exprs; blocks = onto (stmt.Fail (expr t)) t.blocks }
+statement_made stmt_kind.Put t =
+    record t {
+      names = rest t.names;
+      exprs = rest (rest t.exprs);
+      blocks = onto (stmt.Put (name t) (expr_below t) (expr t)) t.blocks;
+    }
+statement_made stmt_kind.Delete t =
+    record t {
+      names = rest t.names;
+      exprs = rest t.exprs;
+      blocks = onto (stmt.Delete (name t) (expr t)) t.blocks;
+    }
+statement_made stmt_kind.If t =
+    record t {
+      exprs = rest t.exprs;
+      blocks = onto (stmt.If (expr t) (block t) None) (rest t.blocks);
+    }
+statement_made stmt_kind.IfElse t =
+    record t {
+      exprs = rest t.exprs;
+      blocks = onto (stmt.If (expr t) (block_below t) (Some (block t))) (rest (rest t.blocks));
+    }
+statement_made stmt_kind.While t =
+    record t { exprs = rest t.exprs; blocks = onto (stmt.While (expr t) (block t)) (rest t.blocks) }
+statement_made stmt_kind.Each t =
+    record t {
+      names = rest t.names;
+      exprs = rest t.exprs;
+      blocks = onto (stmt.Each (name t) (expr t) (block t)) (rest t.blocks);
+    }
+statement_made stmt_kind.Try t =
+    record t {
+      names = rest t.names;
+      blocks = onto (stmt.Try (block_below t) (name t) (block t)) (rest (rest t.blocks));
+    }
+statement_made stmt_kind.Return t =
+    record t { exprs = rest t.exprs; blocks = onto (stmt.Return (expr t)) t.blocks }
+statement_made stmt_kind.Fail t =
+    record t { exprs = rest t.exprs; blocks = onto (stmt.Fail (expr t)) t.blocks }
 
 -- a right side or a step
 abbrev pub binding_made : Binding → Trees → Trees
-binding_made bind_kind.Call t = record t { names = rest t.names; groups = rest t.groups; asks = step.Call (name t) (group t) ∷ t.asks }
-binding_made bind_kind.Spawn t = record t { names = rest t.names; groups = rest t.groups; asks = step.Spawn (name t) (group t) ∷ t.asks }
+binding_made bind_kind.Call t =
+    record t {
+      names = rest t.names;
+      groups = rest t.groups;
+      asks = step.Call (name t) (group t) ∷ t.asks;
+    }
+binding_made bind_kind.Spawn t =
+    record t {
+      names = rest t.names;
+      groups = rest t.groups;
+      asks = step.Spawn (name t) (group t) ∷ t.asks;
+    }
 binding_made bind_kind.Await t = record t { exprs = rest t.exprs; asks = step.Await (expr t) ∷ t.asks }
 binding_made bind_kind.Asked t = record t { asks = rest t.asks; rights = right.Ask (ask t) ∷ t.rights }
-binding_made bind_kind.Get t = record t { names = rest t.names; exprs = rest t.exprs; rights = right.Get (name t) (expr t) ∷ t.rights }
-binding_made bind_kind.Scan t = record t { names = rest t.names; exprs = rest (rest t.exprs); rights = right.Scan (name t) (expr_below t) (expr t) ∷ t.rights }
-binding_made bind_kind.Plain t = record t { exprs = rest t.exprs; rights = right.Plain (expr t) ∷ t.rights }
+binding_made bind_kind.Get t =
+    record t {
+      names = rest t.names;
+      exprs = rest t.exprs;
+      rights = right.Get (name t) (expr t) ∷ t.rights;
+    }
+binding_made bind_kind.Scan t =
+    record t {
+      names = rest t.names;
+      exprs = rest (rest t.exprs);
+      rights = right.Scan (name t) (expr_below t) (expr t) ∷ t.rights;
+    }
+binding_made bind_kind.Plain t =
+    record t { exprs = rest t.exprs; rights = right.Plain (expr t) ∷ t.rights }
 
 -- an item is put behind the others
 abbrev pub item_made : Declaration → Trees → Trees
-item_made item_kind.Table t = record t { names = rest t.names; items = t.items ++ item.Table (name t) ∷ [] }
-item_made item_kind.Queue t = record t { names = rest t.names; bounds = rest t.bounds; items = t.items ++ item.Queue (name t) (bound t) ∷ [] }
-item_made item_kind.Outside t = record t { names = rest t.names; lists = rest t.lists; items = t.items ++ item.Outside (name t) (list t) ∷ [] }
-item_made item_kind.Helper t = record t { names = rest t.names; lists = rest t.lists; exprs = rest t.exprs; items = t.items ++ item.Helper (name t) (list t) (expr t) ∷ [] }
-item_made item_kind.Txn t = record t { names = rest t.names; lists = rest t.lists; blocks = rest t.blocks; items = t.items ++ item.Txn false (name t) (list t) (block t) ∷ [] }
-item_made item_kind.Flow t = record t { names = rest t.names; lists = rest t.lists; blocks = rest t.blocks; items = t.items ++ item.Flow (name t) (list t) (block t) ∷ [] }
+item_made item_kind.Table t =
+    record t { names = rest t.names; items = t.items ++ item.Table (name t) ∷ [] }
+item_made item_kind.Queue t =
+    record t {
+      names = rest t.names;
+      bounds = rest t.bounds;
+      items = t.items ++ item.Queue (name t) (bound t) ∷ [];
+    }
+item_made item_kind.Outside t =
+    record t {
+      names = rest t.names;
+      lists = rest t.lists;
+      items = t.items ++ item.Outside (name t) (list t) ∷ [];
+    }
+item_made item_kind.Helper t =
+    record t {
+      names = rest t.names;
+      lists = rest t.lists;
+      exprs = rest t.exprs;
+      items = t.items ++ item.Helper (name t) (list t) (expr t) ∷ [];
+    }
+item_made item_kind.Txn t =
+    record t {
+      names = rest t.names;
+      lists = rest t.lists;
+      blocks = rest t.blocks;
+      items = t.items ++ item.Txn false (name t) (list t) (block t) ∷ [];
+    }
+item_made item_kind.Flow t =
+    record t {
+      names = rest t.names;
+      lists = rest t.lists;
+      blocks = rest t.blocks;
+      items = t.items ++ item.Flow (name t) (list t) (block t) ∷ [];
+    }
 
 -- the trees after an action
 abbrev pub made : Action → Trees → Trees
@@ -162,5 +264,10 @@ made act.Null t = record t { exprs = tree.Null ∷ t.exprs }
 made act.True t = record t { exprs = tree.True ∷ t.exprs }
 made act.False t = record t { exprs = tree.False ∷ t.exprs }
 made act.List t = record t { groups = rest t.groups; exprs = tree.List (group t) ∷ t.exprs }
-made act.Apply t = record t { names = rest t.names; groups = rest t.groups; exprs = tree.Helper (name t) (group t) ∷ t.exprs }
+made act.Apply t =
+    record t {
+      names = rest t.names;
+      groups = rest t.groups;
+      exprs = tree.Helper (name t) (group t) ∷ t.exprs;
+    }
 made act.Variable t = record t { names = rest t.names; exprs = tree.Name (name t) ∷ t.exprs }

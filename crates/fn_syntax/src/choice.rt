@@ -40,7 +40,8 @@ pub fn choose(
     next: Option<Letter>,
 ) -> Option<&'static [Symbol]>
     requires { IfSome next IsToken }
-    ensures { MatchOption result (chosen (map (λ r. r.now) rules.now) (seen next.entry) ≡ None) (λ r. chosen (map (λ r. r.now) rules.now) (seen next.entry) ≡ Some r.now) }
+    ensures { MatchOption result (chosen (map (λ r. r.now) rules.now) (seen next.entry) ≡ None)
+        (λ r. chosen (map (λ r. r.now) rules.now) (seen next.entry) ≡ Some r.now) }
 {
     for rule in rules {
         if starts(*rule, next) {

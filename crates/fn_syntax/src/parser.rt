@@ -1,9 +1,11 @@
 //! The parser: a stack of the symbols that are still to be read, and a stack of trees.
 
-ghost use Rattle.std.specs.Prelude.{◌≡◌, ◌≤◌, ◌<◌, ◌+◌, ◌-◌, ◌∷◌, ◌++◌, [], length, IfOk, IfSome, OnOk, true, false, if◌then◌else◌};
+ghost use Rattle.std.specs.Prelude.{◌≡◌, ◌≤◌, ◌<◌, ◌+◌, ◌-◌, ◌∷◌, ◌++◌, [], length};
+ghost use Rattle.std.specs.Prelude.{IfOk, IfSome, OnOk, true, false, if◌then◌else◌};
 ghost use Rattle.fn_syntax.specs.Trees.{first};
 ghost use Rattle.fn_syntax.specs.Letters.{fits};
-ghost use Rattle.fn_syntax.specs.Derivation.{start, opens, closes, leads_item, has, deeper, crowded, over, after_letter, depth_after, one_more};
+ghost use Rattle.fn_syntax.specs.Derivation.{start, opens, closes, leads_item, has, deeper, crowded, over};
+ghost use Rattle.fn_syntax.specs.Derivation.{after_letter, depth_after, one_more};
 ghost use Rattle.fn_syntax.specs.Steps.{AllTame, is_terminal};
 ghost use Rattle.fn_syntax.specs.Written.{seen, seen_as, IsToken};
 ghost use Rattle.fn_syntax.specs.Machine.{state_of, Spreads, Takes};
@@ -187,7 +189,8 @@ impl Parser {
         requires token { IsToken letter }
         requires fits { fits symbol (seen_as letter) ≡ true }
         requires within { over symbol (state_of self.old) ≡ false }
-        ensures state { OnOk result (state_of self.new ≡ after_letter symbol (seen_as letter.entry) (state_of self.old)) }
+        ensures state { OnOk result
+            (state_of self.new ≡ after_letter symbol (seen_as letter.entry) (state_of self.old)) }
         ensures todo { OnOk result (self.new.todo ≡ self.old.todo) }
     {
         push_letter(self.alloc, symbol, letter, &mut self.trees)?;
@@ -201,7 +204,8 @@ impl Parser {
         requires token { IfSome next IsToken }
         requires terminal { is_terminal symbol ≡ true }
         requires tame { AllTame self.old.todo }
-        ensures { IfOk result (λ b. Takes b (seen next.entry) (symbol ∷ self.old.todo) (state_of self.old) self.new) }
+        ensures { IfOk result
+            (λ b. Takes b (seen next.entry) (symbol ∷ self.old.todo) (state_of self.old) self.new) }
     {
         match next {
             None => Ok(false),
@@ -223,7 +227,8 @@ impl Parser {
         requires token { IfSome next IsToken }
         requires inner { is_terminal symbol ≡ false }
         requires tame { AllTame (symbol ∷ self.old.todo) }
-        ensures { IfOk result (λ b. Spreads b (seen next.entry) (symbol ∷ self.old.todo) (state_of self.old) self.new) }
+        ensures { IfOk result
+            (λ b. Spreads b (seen next.entry) (symbol ∷ self.old.todo) (state_of self.old) self.new) }
     {
         match symbol {
             Symbol::Part(part) => match choose(rules(part), next) {
@@ -258,7 +263,8 @@ impl Parser {
     pub fn step(&mut self, next: Option<Letter>) -> Result<bool, Memory>
         requires token { IfSome next IsToken }
         requires tame { AllTame self.old.todo }
-        ensures { IfOk result (λ b. Takes b (seen next.entry) self.old.todo (state_of self.old) self.new) }
+        ensures { IfOk result
+            (λ b. Takes b (seen next.entry) self.old.todo (state_of self.old) self.new) }
     {
         loop {
             match self.todo.pop() {

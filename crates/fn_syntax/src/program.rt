@@ -1,6 +1,7 @@
 //! Parsing.
 
-ghost use Rattle.std.specs.Prelude.{◌≡◌, ◌<◌, ◌^◌, ℕ, List, IfOk, Err, None, length, nat_lt, true};
+ghost use Rattle.std.specs.Prelude.{◌≡◌, ◌<◌, ◌^◌, ℕ, List, IfOk, Err, None, length};
+ghost use Rattle.std.specs.Prelude.{nat_lt, true};
 ghost use Rattle.fn_lex.specs.Lexed.{Lexed};
 ghost use Rattle.fn_tree.specs.Soundness.{each_passes, are_names, names_in, params_of};
 ghost use Rattle.fn_tree.specs.declared.program.Item.{Item as Tree};
@@ -25,15 +26,21 @@ pub fn parse(alloc: Global, text: &[u8], tokens: &[Token]) -> Result<Program, Sy
 
     // The program is the one that the grammar gives, within the limits; there is no other.
     ensures tree { IfOk result (λ p. IsProgram (letters text.now tokens.now) p.items.items) }
-    ensures only { IfOk result (λ p. (q : List Tree) → IsProgram (letters text.now tokens.now) q → q ≡ p.items.items) }
+    ensures only { IfOk result (λ p. (q : List Tree)
+        → IsProgram (letters text.now tokens.now) q → q ≡ p.items.items) }
 
-    // Every name that an item declares or binds has 1 to 64 bytes, and an item has at most 16 parameters.
-    ensures names { IfOk result (λ p. each_passes (λ i. are_names (names_in i)) p.items.items ≡ true) }
-    ensures few_params { IfOk result (λ p. each_passes (λ i. nat_lt (length (params_of i)) 17) p.items.items ≡ true) }
+    // Every name that an item declares or binds has 1 to 64 bytes; an item has at most 16 parameters.
+    ensures names { IfOk result
+        (λ p. each_passes (λ i. are_names (names_in i)) p.items.items ≡ true) }
+    ensures few_params { IfOk result
+        (λ p. each_passes (λ i. nat_lt (length (params_of i)) 17) p.items.items ≡ true) }
 
     // What is refused is no program, and is refused at its place.
-    ensures place { (at : ℕ) → result ≡ Err (SyntaxError.Syntax at) → IsPlace text.now tokens.now at }
-    ensures none { (at : ℕ) → result ≡ Err (SyntaxError.Syntax at) → (q : List Tree) → IsProgram (letters text.now tokens.now) q → ⊥ }
+    ensures place { (at : ℕ)
+        → result ≡ Err (SyntaxError.Syntax at) → IsPlace text.now tokens.now at }
+    ensures none { (at : ℕ)
+        → result ≡ Err (SyntaxError.Syntax at)
+        → (q : List Tree) → IsProgram (letters text.now tokens.now) q → ⊥ }
 {
     spans_are_slices();
     let mut parser = Parser::new(alloc)?;

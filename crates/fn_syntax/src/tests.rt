@@ -96,6 +96,19 @@ fn a_bank_is_parsed(rt: HostRuntime) -> Result<(), Fail> {
 }
 
 #[test]
+fn a_bad_lexeme_is_no_fault_of_syntax(rt: HostRuntime) -> Result<(), Fail> {
+    match read(rt.alloc(), b"table Acct;")? {
+        Answer::Unlexed(at) => assert_eq!(rt; at, 6),
+        _ => assert!(rt; false, "it has a bad lexeme"),
+    }
+    match read(rt.alloc(), b"table acct")? {
+        Answer::Refused(at) => assert_eq!(rt; at, 10),
+        _ => assert!(rt; false, "its end is missing"),
+    }
+    Ok(())
+}
+
+#[test]
 fn refused_places_are_exact(rt: HostRuntime) -> Result<(), Fail> {
     // a text, and where it is refused
     let cases = [

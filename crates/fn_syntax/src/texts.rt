@@ -56,7 +56,8 @@ fn closes(escaped: bool, b: u8) -> bool
 /// Takes one byte more of a text, and says whether the next one stands behind a backslash.
 fn unescape(bytes: &mut Vec<u8>, escaped: bool, b: u8) -> Result<bool, Memory>
     requires { closes_text escaped b ≡ false }
-    ensures { IfOk result (λ next. (w : List ℕ) → bytes.new.items ++ denoted_from next w ≡ bytes.old.items ++ denoted_from escaped (b ∷ w)) }
+    ensures { IfOk result (λ next. (w : List ℕ)
+        → bytes.new.items ++ denoted_from next w ≡ bytes.old.items ++ denoted_from escaped (b ∷ w)) }
 {
     if escaped {
         bytes.push(escaped_byte(b))?;
