@@ -16,12 +16,7 @@ use std::alloc::Global;
 type Pairs = Vec<(Key, Option<Cell>)>;
 
 // A row with the steps behind it, counted from 0.
-fn with_steps(
-    alloc: Global,
-    id: &Txt,
-    row: FlowRow,
-    steps: Vec<StepRow>,
-) -> Result<Pairs, Memory>
+fn with_steps(alloc: Global, id: &Txt, row: FlowRow, steps: Vec<StepRow>) -> Result<Pairs, Memory>
     requires { length steps.items ≤ 1000 }
     ensures { IfOk result (λ pairs. pairs.items ≡ flow_write id.now row ∷ map (λ s. step_write id.now s.0 s.1) (enumerate_from 0 steps.items)) }
 {

@@ -103,7 +103,7 @@ history-schedule = refl
 it_repeats : IsVerdict bank history (Same 6)
 it_repeats = (refl, refl)
 
--- ---- the history of row 17
+-- ---- a history of two transfers that overlap
 
 abbrev pub requests : List Entry
 requests =
