@@ -1,8 +1,7 @@
 -- Lists that are taken from their end, mapped one by one, and turned round.
 use Rattle.std.proofs.Common.{◌≡◌, ℕ, List, [], ◌∷◌, ◌++◌, map, refl, sym, ap, ◌∙◌, append_assoc}
 use Rattle.std.specs.Prelude.{reverse}
-use Rattle.std.proofs.lemmas.List.{append-nil}
-use Rattle.std.proofs.Math.Seq.{reverse-append}
+use Rattle.std.proofs.lemmas.List.{reverse-append}
 
 module _ {A B : Type 0} (f : A → B) where
   map_more : (xs : List A) (x : A) → map f (xs ++ x ∷ []) ≡ map f xs ++ f x ∷ []
