@@ -1,0 +1,12 @@
+//! A history that can be read: its rows as they stood after its first entries.
+//!
+//! What keeps a history implements `Past`: a store over its version chains, or a plain list of entries. The
+//! crates above decide on it what an event comes to, and never see how it is kept. `AsOf` is what a
+//! transaction sees of it on a snapshot.
+#![tactic(auto)]
+
+mod as_of;
+mod past;
+
+pub use as_of::AsOf;
+pub use past::Past;
