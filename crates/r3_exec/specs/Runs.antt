@@ -1,0 +1,41 @@
+-- An executor, and the state of the machine that it is in.
+use Rattle.std.specs.Prelude.{◌≡◌, ℕ, List, Option, length, map}
+use Rattle.std.specs.List.Sorted.{IsPermutation}
+use Rattle.r3_entry.specs.declared.entry.Entry.{Entry}
+use Rattle.r3_store.specs.Holds as store
+use Rattle.fn_tree.specs.declared.program.Item.{Item}
+use Rattle.sys_queue.specs.Lines.{declared_of, new_lines}
+use Rattle.sys_queue.specs.Rows.{Rows}
+use Rattle.sys_queue.specs.Index as queues
+use Rattle.sys_pending.specs.Index as pending
+use Rattle.r3_model.specs.Language.{Language, Text}
+use Rattle.r3_model.specs.Functions.{language_of}
+use Rattle.r3_model.specs.Rows.{flows_at}
+use Rattle.r3_model.specs.Machine.{State}
+use Rattle.r3_model.specs.Valid.{IsValid}
+use Rattle.r3_laws.specs.OfQueues.{rows_of}
+use Rattle.r3_exec.specs.declared.exec.Exec.{Exec}
+
+-- what the machine runs
+abbrev pub language : Exec → Language
+language exec = language_of exec.program
+
+-- the workflows of a history with their rows, in the order of their IDs
+abbrev pub rows_now : List Entry → Rows
+rows_now h = rows_of (flows_at h (length h))
+
+-- what is in memory stands for a valid state
+pub record Stands (exec : Exec) (st : State) : Type 0 where
+  pub valid : IsValid (language exec) st
+  pub store : store.Stands exec.store st.history
+  pub begun : exec.begun.entries ≡ st.begun
+  -- each open snapshot is pinned once
+  pub pins : IsPermutation exec.store.pins (map (λ (b : Text × ℕ). b.1) st.begun)
+  pub declared : declared_of exec.queues ≡ declared_of (new_lines exec.program)
+  pub queues : queues.IsIndexOf exec.queues (rows_now st.history)
+  pub pending : pending.IsIndexOf exec.pending (rows_now st.history)
+
+-- and so does the desk's disk, on which the first entries are settled
+pub record Runs {D : Type 0} (told_size : D → Option ℕ) (told_image : D → Option (List ℕ)) (may_leave : D → List ℕ → Type 0) (desk : D) (exec : Exec) (st : State) (settled : ℕ) : Type 0 where
+  pub stands : Stands exec st
+  pub holds : store.Holds told_size told_image may_leave desk exec.store st.history settled

@@ -1,0 +1,144 @@
+//! The executor.
+
+ghost use Rattle.std.specs.Prelude.{◌≡◌, ◌≢◌, ◌⊎◌, [], ℕ, List, length, map, IfOk, OnOk, IsErrOf};
+ghost use Rattle.std.specs.Option.{option_copied};
+ghost use Rattle.std.specs.Option.{ForSome};
+ghost use Rattle.r3_desk.specs.Causes.{Rose};
+ghost use Rattle.fn_tree.specs.Declarations.{any, is_table};
+ghost use Rattle.r3_entry.specs.declared.entry.Entry.{Entry};
+ghost use Rattle.r3_store.specs.Holds.{Stands as StoreStands};
+ghost use Rattle.r3_model.specs.Machine.{State};
+ghost use Rattle.r3_model.specs.Run.{restarted, pending_ids};
+ghost use Rattle.r3_model.specs.Rows.{flow_at, row_at};
+ghost use Rattle.r3_model.specs.Language.{Queue};
+ghost use Rattle.r3_exec.specs.Does.{IsRead, Leaves, SyncsWithin};
+
+use crate::ends::ExecFault;
+use fn_tree::checked::Checked;
+use fn_tree::program::Item;
+use r3_desk::Desk;
+use r3_rows::FlowRow;
+use r3_store::Store;
+use r3_value::{Memory, Txt, Val};
+use std::alloc::Global;
+use std::collections::BTreeMap;
+use sys_pending::Pending;
+use sys_queue::Queues;
+
+/// The plain machine over a store: its program, the queues and the running workflows as the rows say, and the
+/// open snapshots by the IDs of their workflows, each of them pinned in the store.
+#[derive(Drop)]
+pub struct Exec {
+    program: Checked,
+    store: Store,
+    queues: Queues,
+    pending: Pending,
+    begun: BTreeMap<Txt, u32>,
+}
+
+// The item declares this table.
+fn is_table(item: &Item, table: &str) -> bool
+    ensures { result ≡ is_table table.now item.now }
+{
+    match item {
+        Item::Table { name } => name.as_str() == table,
+        _ => false,
+    }
+}
+
+fn declares(items: &[Item], table: &str) -> bool
+    ensures { result ≡ any (is_table table.now) items.now }
+{
+    'items: for item in items {
+        if is_table(item, table) {
+            return true;
+        }
+    }
+    false
+}
+
+impl Exec {
+    ghost use Rattle.r3_exec.specs.Runs.{Stands, Runs, language};
+
+    /// Takes up a history that isn't empty. No snapshot is open, and none is pinned in the store.
+    pub fn new(alloc: Global, program: Checked, store: Store) -> Result<Exec, Memory>
+        requires { (h : List Entry) × StoreStands store h × (h ≢ []) × (store.pins ≡ []) }
+        ensures stands { (h : List Entry) → StoreStands store h → IfOk result (λ e. Stands e (restarted h)) }
+        ensures store { IfOk result (λ e. e.store ≡ store) }
+        ensures program { IfOk result (λ e. e.program ≡ program) }
+    {
+        Err(Memory)
+    }
+
+    /// The number of entries.
+    pub fn len(&self) -> u32
+        ensures { (st : State) → Stands self.now st → result ≡ length st.history }
+    {
+        self.store.len()
+    }
+
+    /// Whether a table is declared.
+    pub fn has_table(&self, table: &str) -> bool
+        ensures { result ≡ (language self.now).has_table table.now }
+    {
+        declares(&self.program.program().items, table)
+    }
+
+    /// The row of a workflow, None where no workflow has the ID.
+    pub fn flow(&self, alloc: Global, id: &str) -> Result<Option<&FlowRow>, Memory>
+        ensures { (st : State) → Stands self.now st →
+            IfOk result (λ r. option_copied r ≡ flow_at st.history (length st.history) id.now) }
+    {
+        Err(Memory)
+    }
+
+    /// The value of a row, None where it is absent.
+    pub fn row(&self, alloc: Global, table: &str, key: &str) -> Result<Option<&Val>, Memory>
+        ensures { (st : State) → Stands self.now st →
+            IfOk result (λ v. option_copied v ≡ row_at st.history (length st.history) table.now key.now) }
+    {
+        Err(Memory)
+    }
+
+    /// The declared queues, in their order.
+    pub fn queues(&self, alloc: Global) -> Result<Vec<Txt>, Memory>
+        ensures { IfOk result (λ names. names.items ≡ map (λ (q : Queue). q.name) (language self.now).queues) }
+    {
+        Err(Memory)
+    }
+
+    /// The IDs of the running workflows, the first started first; of one entry the lowest ID first. It takes as
+    /// long as there are such.
+    pub fn pending(&self, alloc: Global) -> Result<Vec<Txt>, Memory>
+        ensures { (st : State) → Stands self.now st → IfOk result (λ ids. ids.items ≡ pending_ids st) }
+    {
+        Err(Memory)
+    }
+
+    /// Makes all entries lasting. It takes no memory.
+    pub fn settle<D: Desk>(&mut self, desk: &mut D) -> Result<(), ExecFault>
+        requires { (st : State) × (k : ℕ) × Runs D.size D.image D.may_leave desk.old self.old st k }
+        ensures settled { (st : State) (k : ℕ) → Runs D.size D.image D.may_leave desk.old self.old st k →
+            OnOk result (Runs D.size D.image D.may_leave desk.new self.new st (length st.history)) }
+        ensures program { self.new.program ≡ self.old.program }
+
+        // A crash at any moment leaves what was settled, with all entries since or without.
+        ensures crash { (st : State) (k : ℕ) → Runs D.size D.image D.may_leave desk.old self.old st k →
+            Leaves D.moment D.reach D.said D.asked desk.old desk.new st.history k }
+        ensures reads { (st : State) (k : ℕ) → Runs D.size D.image D.may_leave desk.old self.old st k →
+            ForSome (D.image desk.new) (IsRead st.history k) }
+        ensures disk { IsErrOf result ExecFault.Disk → Rose (D.disk_faults desk.old) (D.disk_faults desk.new) }
+        ensures no_fault { (IsErrOf result ExecFault.Disk → ⊥) → D.disk_faults desk.new ≡ D.disk_faults desk.old }
+        ensures only_disk { IsErrOf result ExecFault.Memory → ⊥ }
+        ensures few_syncs { SyncsWithin (D.syncs desk.old) (D.syncs desk.new) 2 }
+        ensures said { D.said desk.new ≡ D.said desk.old }
+        ensures asked { D.asked desk.new ≡ D.asked desk.old }
+        ensures say_faults { D.say_faults desk.new ≡ D.say_faults desk.old }
+        ensures ask_faults { D.ask_faults desk.new ≡ D.ask_faults desk.old }
+    {
+        match self.store.settle(desk) {
+            Ok(()) => Ok(()),
+            Err(_) => Err(ExecFault::Disk),
+        }
+    }
+}
