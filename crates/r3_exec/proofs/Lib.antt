@@ -1,3 +1,4 @@
 pub mod Leaving
+pub mod Maps
 pub mod Parts
 pub mod Syncs

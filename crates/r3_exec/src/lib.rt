@@ -10,6 +10,7 @@ mod append;
 mod dequeue;
 mod ends;
 mod exec;
+mod stored;
 mod turn;
 
 pub use ends::{CommandEnd, DequeueEnd, ExecFault, TurnEnd};
