@@ -1,4 +1,7 @@
+pub mod Commits
 pub mod Leaving
 pub mod Maps
+pub mod Noting
 pub mod Parts
+pub mod Rows
 pub mod Syncs

@@ -1,22 +1,26 @@
 -- An executor of which the store alone has changed.
-use Rattle.std.proofs.Common.{◌≡◌, ℕ, List, Option, length, map, sym, subst}
+use Rattle.std.proofs.Common.{◌≡◌, ℕ, List, length, map, sym, subst}
 use Rattle.std.specs.List.Sorted.{IsPermutation}
+use Rattle.r3_entry.specs.declared.entry.Entry.{Entry}
 use Rattle.r3_store.specs.Holds as store
 use Rattle.r3_store.specs.declared.store.Store.{Store}
 use Rattle.r3_model.specs.Language.{Text}
-use Rattle.r3_model.specs.Machine.{State}
-use Rattle.r3_exec.specs.Runs.{Stands, Runs}
+use Rattle.r3_model.specs.Machine.{State, Begun}
+use Rattle.r3_exec.specs.Runs.{Keeps, Stands}
 use Rattle.r3_exec.specs.declared.exec.Exec.{Exec}
 
 -- the store stands for the same history, with the same pins
-pub with_store : (exec : Exec) (st : State) (s : Store) → Stands exec st → store.Stands s st.history → s.pins ≡ exec.store.pins
-    → Stands (record exec { store = s }) st
-with_store exec st s old new same = record {
-  valid = old.valid;
+pub keeps_with : (exec : Exec) (h : List Entry) (begun : Begun) (s : Store) → Keeps exec h begun → store.Stands s h → s.pins ≡ exec.store.pins
+    → Keeps (record exec { store = s }) h begun
+keeps_with exec h begun s old new same = record {
   store = new;
-  begun = old.begun;
-  pins = subst (λ (ps : List ℕ). IsPermutation ps (map (λ (b : Text × ℕ). b.1) st.begun)) (sym same) old.pins;
+  snapshots = old.snapshots;
+  pins = subst (λ (ps : List ℕ). IsPermutation ps (map (λ (b : Text × ℕ). b.1) begun)) (sym same) old.pins;
   declared = old.declared;
   queues = old.queues;
   pending = old.pending;
 }
+
+pub with_store : (exec : Exec) (st : State) (s : Store) → Stands exec st → store.Stands s st.history → s.pins ≡ exec.store.pins
+    → Stands (record exec { store = s }) st
+with_store exec st s old new same = record { valid = old.valid; keeps = keeps_with exec st.history st.begun s old.keeps new same }

@@ -2,3 +2,4 @@ pub mod Ends
 pub mod Runs
 pub mod Does
 pub mod Fit
+pub mod Placed

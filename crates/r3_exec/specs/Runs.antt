@@ -11,7 +11,7 @@ use Rattle.sys_pending.specs.Index as pending
 use Rattle.r3_model.specs.Language.{Language, Text}
 use Rattle.r3_model.specs.Functions.{language_of}
 use Rattle.r3_model.specs.Rows.{flows_at}
-use Rattle.r3_model.specs.Machine.{State}
+use Rattle.r3_model.specs.Machine.{State, Begun}
 use Rattle.r3_model.specs.Valid.{IsValid}
 use Rattle.r3_laws.specs.OfQueues.{rows_of}
 use Rattle.r3_exec.specs.declared.exec.Exec.{Exec}
@@ -24,16 +24,20 @@ language exec = language_of exec.program
 abbrev pub rows_now : List Entry → Rows
 rows_now h = rows_of (flows_at h (length h))
 
--- what is in memory stands for a valid state
+-- What is in memory stands for a history and the open snapshots.
+pub record Keeps (exec : Exec) (h : List Entry) (begun : Begun) : Type 0 where
+  pub store : store.Stands exec.store h
+  pub snapshots : exec.begun.entries ≡ begun
+  -- each open snapshot is pinned once
+  pub pins : IsPermutation exec.store.pins (map (λ (b : Text × ℕ). b.1) begun)
+  pub declared : declared_of exec.queues ≡ declared_of (new_lines exec.program)
+  pub queues : queues.IsIndexOf exec.queues (rows_now h)
+  pub pending : pending.IsIndexOf exec.pending (rows_now h)
+
+-- it stands for a valid state
 pub record Stands (exec : Exec) (st : State) : Type 0 where
   pub valid : IsValid (language exec) st
-  pub store : store.Stands exec.store st.history
-  pub begun : exec.begun.entries ≡ st.begun
-  -- each open snapshot is pinned once
-  pub pins : IsPermutation exec.store.pins (map (λ (b : Text × ℕ). b.1) st.begun)
-  pub declared : declared_of exec.queues ≡ declared_of (new_lines exec.program)
-  pub queues : queues.IsIndexOf exec.queues (rows_now st.history)
-  pub pending : pending.IsIndexOf exec.pending (rows_now st.history)
+  pub keeps : Keeps exec st.history st.begun
 
 -- and so does the desk's disk, on which the first entries are settled
 pub record Runs {D : Type 0} (told_size : D → Option ℕ) (told_image : D → Option (List ℕ)) (may_leave : D → List ℕ → Type 0) (desk : D) (exec : Exec) (st : State) (settled : ℕ) : Type 0 where

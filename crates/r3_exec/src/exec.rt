@@ -29,11 +29,11 @@ use sys_queue::Queues;
 /// open snapshots by the IDs of their workflows, each of them pinned in the store.
 #[derive(Drop)]
 pub struct Exec {
-    program: Checked,
-    store: Store,
-    queues: Queues,
-    pending: Pending,
-    begun: BTreeMap<Txt, u32>,
+    pub(crate) program: Checked,
+    pub(crate) store: Store,
+    pub(crate) queues: Queues,
+    pub(crate) pending: Pending,
+    pub(crate) begun: BTreeMap<Txt, u32>,
 }
 
 // The item declares this table.

@@ -7,6 +7,7 @@
 #![tactic(auto)]
 
 mod append;
+mod commit;
 mod dequeue;
 mod ends;
 mod exec;
