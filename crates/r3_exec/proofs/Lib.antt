@@ -1,4 +1,5 @@
 pub mod Commits
+pub mod Entered
 pub mod Leaving
 pub mod Maps
 pub mod Noting

@@ -5,11 +5,9 @@ use Rattle.r3_rows.specs.declared.rows.Key.{Key}
 use Rattle.r3_rows.specs.declared.rows.Key.TheVariants as keys
 use Rattle.r3_rows.specs.declared.rows.Cell.{Cell}
 use Rattle.r3_rows.specs.declared.rows.Cell.TheVariants as cells
-use Rattle.std.specs.List.{AllByRecursion}
 use Rattle.std.specs.List.Sorted.{IsPermutation}
 use Rattle.r3_rows.specs.declared.rows.FlowRow.{FlowRow}
 use Rattle.r3_entry.specs.Limits.{IsEntry}
-use Rattle.r3_entry.specs.Formed.{IsFlowRow}
 use Rattle.r3_store.specs.Holds as store
 use Rattle.sys_queue.specs.Lines.{declared_of, new_lines}
 use Rattle.sys_queue.specs.Index as queues
@@ -46,7 +44,6 @@ pub record HasEntered (exec : Exec) (h : List Entry) (e : Entry) (begun : Begun)
   pub pending : pending.IsIndexOf exec.pending (rows_now h)
   pub entry : IsEntry e
   pub one_flow : flows_in e.writes ≤ 1
-  pub flows : AllByRecursion (IsFlowRow (length h + 1)) e.writes
 
 -- what is in memory and on the disk
 pub record Keeping {D : Type 0} (told_size : D → Option ℕ) (told_image : D → Option (List ℕ)) (may_leave : D → List ℕ → Type 0) (desk : D) (exec : Exec) (h : List Entry) (begun : Begun) (settled : ℕ) : Type 0 where

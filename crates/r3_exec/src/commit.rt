@@ -93,9 +93,11 @@ impl Exec {
         ensures full { (h : List E) (begun : Begun) (k : ℕ) (l : _) →
             Keeping D.size D.image D.may_leave desk.old self.old h begun k → result ≡ Ok (Placed.Full l) →
             (full_of h entry ≡ Some (limit_of l)) × Keeping D.size D.image D.may_leave desk.new self.new h begun k }
-        ensures conflict { (h : List E) (begun : Begun) (k : ℕ) (j : ℕ) →
+        ensures conflict { (h : List E) → StoreStands self.old.store h → (j : ℕ) → result ≡ Ok (Placed.Conflict j) →
+            first_conflict h entry.snap (keys_of entry.writes) ≡ Some j }
+        ensures kept { (h : List E) (begun : Begun) (k : ℕ) (j : ℕ) →
             Keeping D.size D.image D.may_leave desk.old self.old h begun k → result ≡ Ok (Placed.Conflict j) →
-            (first_conflict h entry.snap (keys_of entry.writes) ≡ Some j) × Keeping D.size D.image D.may_leave desk.new self.new h begun k }
+            Keeping D.size D.image D.may_leave desk.new self.new h begun k }
         ensures found { (h : List E) → StoreStands self.old.store h → (j : ℕ) → first_conflict h entry.snap (keys_of entry.writes) ≡ Some j →
             (result ≡ Ok (Placed.Conflict j)) ⊎ (result ≡ Err ExecFault.Memory) }
         ensures crash { (h : List E) (begun : Begun) (k : ℕ) → Keeping D.size D.image D.may_leave desk.old self.old h begun k →
@@ -206,7 +208,8 @@ impl Exec {
                 Ok(()) => Ok(Placed::Number(number)),
                 Err(_) => Err(ExecFault::Memory),
             },
-            Ok(other) => Ok(other),
+            Ok(Placed::Full(limit)) => Ok(Placed::Full(limit)),
+            Ok(Placed::Conflict(entry)) => Ok(Placed::Conflict(entry)),
             Err(fault) => Err(fault),
         }
     }

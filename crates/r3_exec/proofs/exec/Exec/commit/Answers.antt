@@ -19,10 +19,11 @@ returns-in-Err-Full-clause-full g c = λ h begun k l keeping same.
     )
 
 pub returns-in-Err-Conflict-clause-conflict : goal.returns-in-Err-Conflict-clause-conflict
-returns-in-Err-Conflict-clause-conflict g c = λ h begun k j keeping same.
+returns-in-Err-Conflict-clause-conflict g c = λ h stands j same.
     let is : c.in-Err-Conflict.entry ≡ j = cc in
-    let e = c.in-Err-Conflict.ensures in (
-      e.conflict h keeping.keeps.store c.in-Err-Conflict.entry (ap (λ (x : CommitFault). Err x) c.in-Err-Conflict.field-0-is) ∙ ap (λ (x : ℕ). Some x) is,
-      (let u = e.unchanged (λ at. absurd cc) in
-      still g.D.Desk.size g.D.Desk.image g.D.Desk.may_leave _ _ c.args.self.now c.commit.new.self h begun k keeping u.0 u.1),
-    )
+    c.in-Err-Conflict.ensures.conflict h stands c.in-Err-Conflict.entry (ap (λ (x : CommitFault). Err x) c.in-Err-Conflict.field-0-is) ∙ ap (λ (x : ℕ). Some x) is
+
+pub returns-in-Err-Conflict-clause-kept : goal.returns-in-Err-Conflict-clause-kept
+returns-in-Err-Conflict-clause-kept g c = λ h begun k j keeping same.
+    let u = c.in-Err-Conflict.ensures.unchanged (λ at. absurd cc) in
+    still g.D.Desk.size g.D.Desk.image g.D.Desk.may_leave _ _ c.args.self.now c.commit.new.self h begun k keeping u.0 u.1
