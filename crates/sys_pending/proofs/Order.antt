@@ -129,13 +129,13 @@ apart a b miss same =
     let no : true ≡ false = sym hit ∙ miss in
     absurd cc
   where
-  own : (o : Ordering) → o ≡ ordering_reverse o → is_eq o ≡ true
-  own Less e = absurd cc
-  own Equal e = refl
-  own Greater e = absurd cc
+    own : (o : Ordering) → o ≡ ordering_reverse o → is_eq o ≡ true
+    own Less e = absurd cc
+    own Equal e = refl
+    own Greater e = absurd cc
 
-  itself : eq_by_cmp bytes_cmp a a ≡ true
-  itself = own (bytes_cmp a a) (ids_total.antisymm a a)
+    itself : eq_by_cmp bytes_cmp a a ≡ true
+    itself = own (bytes_cmp a a) (ids_total.antisymm a a)
 
 has-first : (q : Place) (e : Flow) (es : Rows) (t : Bool) → eq_by_cmp bytes_cmp q.1 e.0 ≡ t → below_all bytes_cmp e.0 es ≡ true → has_place q (places es) ≡ is_at (place_at q.1 (find bytes_cmp q.1 es)) q
     → cond (is_pending e.1.status) (eq_by_cmp place_cmp q (place_of e) || has_place q (places es)) (has_place q (places es)) ≡ is_at (place_at q.1 (cond t (Some e.1) (find bytes_cmp q.1 es))) q
@@ -161,19 +161,19 @@ below-placed id f [] lt below = both (is_lt (bytes_cmp id f.0)) true lt refl
 below-placed id f (g ∷ gs) lt below =
     let p = parts (is_lt (bytes_cmp id g.0)) (below_all bytes_cmp id gs) below in
     by_le (nat_le f.1.started g.1.started) p.0 (below-placed id f gs lt p.1) where
-  by_le : (b : Bool) → is_lt (bytes_cmp id g.0) ≡ true → below_all bytes_cmp id (placed f gs) ≡ true → below_all bytes_cmp id (if b then f ∷ g ∷ gs else g ∷ placed f gs) ≡ true
-  by_le true first more = both (is_lt (bytes_cmp id f.0)) (below_all bytes_cmp id (g ∷ gs)) lt below
-  by_le false first more = both (is_lt (bytes_cmp id g.0)) (below_all bytes_cmp id (placed f gs)) first more
+      by_le : (b : Bool) → is_lt (bytes_cmp id g.0) ≡ true → below_all bytes_cmp id (placed f gs) ≡ true → below_all bytes_cmp id (if b then f ∷ g ∷ gs else g ∷ placed f gs) ≡ true
+      by_le true first more = both (is_lt (bytes_cmp id f.0)) (below_all bytes_cmp id (g ∷ gs)) lt below
+      by_le false first more = both (is_lt (bytes_cmp id g.0)) (below_all bytes_cmp id (placed f gs)) first more
 
 below-running : (id : Text) (rows : Rows) → below_all bytes_cmp id rows ≡ true → below_all bytes_cmp id (running rows) ≡ true
 below-running id [] below = refl
 below-running id (e ∷ es) below =
     let p = parts (is_lt (bytes_cmp id e.0)) (below_all bytes_cmp id es) below in
     by_status (is_pending e.1.status) p.0 (below-running id es p.1) where
-  by_status : (b : Bool) → is_lt (bytes_cmp id e.0) ≡ true → below_all bytes_cmp id (running es) ≡ true
-      → below_all bytes_cmp id (by_start (cond b (e ∷ filter (λ (f : Flow). is_pending f.1.status) es) (filter (λ (f : Flow). is_pending f.1.status) es))) ≡ true
-  by_status true lt more = below-placed id e (running es) lt more
-  by_status false lt more = more
+      by_status : (b : Bool) → is_lt (bytes_cmp id e.0) ≡ true → below_all bytes_cmp id (running es) ≡ true
+          → below_all bytes_cmp id (by_start (cond b (e ∷ filter (λ (f : Flow). is_pending f.1.status) es) (filter (λ (f : Flow). is_pending f.1.status) es))) ≡ true
+      by_status true lt more = below-placed id e (running es) lt more
+      by_status false lt more = more
 
 module _ (A : Place → Type 0) where
   abbrev AllAt : Rows → Type 0
@@ -213,13 +213,13 @@ rising-placed f [] below rise = (tt, tt)
 rising-placed f (g ∷ gs) below rise =
     let p = parts (is_lt (bytes_cmp f.0 g.0)) (below_all bytes_cmp f.0 gs) below in
     by_le (nat_le f.1.started g.1.started) refl p.0 (rising-placed f gs p.1 rise.1) where
-  by_le : (b : Bool) → nat_le f.1.started g.1.started ≡ b → is_lt (bytes_cmp f.0 g.0) ≡ true → AreRising (map place_of (placed f gs)) → AreRising (map place_of (if b then f ∷ g ∷ gs else g ∷ placed f gs))
-  by_le true le lt more =
-      let first : place_cmp (place_of f) (place_of g) ≡ Less = by_number f.1.started g.1.started (nat_cmp f.1.started g.1.started) (bytes_cmp f.0 g.0) (ranks f.1.started g.1.started) (le-of f.1.started g.1.started le) (less (bytes_cmp f.0 g.0) lt) in
-      ((first, all-behind (place_of f) (place_of g) (map place_of gs) first rise.0), rise)
-  by_le false le lt more =
-      let first : place_cmp (place_of g) (place_of f) ≡ Less = by_earlier g.1.started f.1.started (nat_cmp g.1.started f.1.started) (bytes_cmp g.0 f.0) (ranks g.1.started f.1.started) (lt-of f.1.started g.1.started le) in
-      (all-placed (λ (x : Place). place_cmp (place_of g) x ≡ Less) f gs first rise.0, more)
+      by_le : (b : Bool) → nat_le f.1.started g.1.started ≡ b → is_lt (bytes_cmp f.0 g.0) ≡ true → AreRising (map place_of (placed f gs)) → AreRising (map place_of (if b then f ∷ g ∷ gs else g ∷ placed f gs))
+      by_le true le lt more =
+          let first : place_cmp (place_of f) (place_of g) ≡ Less = by_number f.1.started g.1.started (nat_cmp f.1.started g.1.started) (bytes_cmp f.0 g.0) (ranks f.1.started g.1.started) (le-of f.1.started g.1.started le) (less (bytes_cmp f.0 g.0) lt) in
+          ((first, all-behind (place_of f) (place_of g) (map place_of gs) first rise.0), rise)
+      by_le false le lt more =
+          let first : place_cmp (place_of g) (place_of f) ≡ Less = by_earlier g.1.started f.1.started (nat_cmp g.1.started f.1.started) (bytes_cmp g.0 f.0) (ranks g.1.started f.1.started) (lt-of f.1.started g.1.started le) in
+          (all-placed (λ (x : Place). place_cmp (place_of g) x ≡ Less) f gs first rise.0, more)
 
 pub rising_rows : (rows : Rows) → is_sorted bytes_cmp rows ≡ true → AreRising (places rows)
 unfolding IsStrictlySortedBy
@@ -227,6 +227,6 @@ rising_rows [] sorted = tt
 rising_rows (e ∷ es) sorted =
     let p = parts (below_all bytes_cmp e.0 es) (is_sorted bytes_cmp es) sorted in
     by_status (is_pending e.1.status) p.0 (rising_rows es p.1) where
-  by_status : (b : Bool) → below_all bytes_cmp e.0 es ≡ true → AreRising (places es) → AreRising (map place_of (by_start (cond b (e ∷ filter (λ (f : Flow). is_pending f.1.status) es) (filter (λ (f : Flow). is_pending f.1.status) es))))
-  by_status true below more = rising-placed e (running es) (below-running e.0 es below) more
-  by_status false below more = more
+      by_status : (b : Bool) → below_all bytes_cmp e.0 es ≡ true → AreRising (places es) → AreRising (map place_of (by_start (cond b (e ∷ filter (λ (f : Flow). is_pending f.1.status) es) (filter (λ (f : Flow). is_pending f.1.status) es))))
+      by_status true below more = rising-placed e (running es) (below-running e.0 es below) more
+      by_status false below more = more

@@ -99,7 +99,11 @@ fn place_of(alloc: Global, id: &str, row: &FlowRow) -> Result<Option<(u32, Txt)>
 }
 
 // Where it stood before, if it was there.
-fn place_before(alloc: Global, id: &str, old: Option<&FlowRow>) -> Result<Option<(u32, Txt)>, Memory>
+fn place_before(
+    alloc: Global,
+    id: &str,
+    old: Option<&FlowRow>,
+) -> Result<Option<(u32, Txt)>, Memory>
     requires { length id.now ≤ 200 }
     ensures { IfOk result (λ place. place ≡ place_at id.now (option_copied old.entry)) }
 {
