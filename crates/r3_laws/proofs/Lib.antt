@@ -66,3 +66,5 @@ pub mod FittedCases
 pub mod KeepsValid
 pub mod Light
 pub mod QueueRule
+pub mod RowsNow
+pub mod PendingRule

@@ -47,7 +47,7 @@ flow-lt a b is = then-lt (bytes_cmp a b) is where
   then-lt Equal is = absurd cc
   then-lt Greater is = absurd cc
 
-below-flows : (id : Text) (ps : Map) → below_all key_cmp (keys.Flow id) ps ≡ true → below_all bytes_cmp id (rows_of (filter_map flow_seen ps)) ≡ true
+pub below-flows : (id : Text) (ps : Map) → below_all key_cmp (keys.Flow id) ps ≡ true → below_all bytes_cmp id (rows_of (filter_map flow_seen ps)) ≡ true
 below-flows id [] below = refl
 below-flows id ((keys.User table key, w) ∷ ps) below = below-flows id ps (parts (is_lt (key_cmp (keys.Flow id) (keys.User table key))) (below_all key_cmp (keys.Flow id) ps) below).1
 below-flows id ((keys.Step i n, w) ∷ ps) below = below-flows id ps (parts (is_lt (key_cmp (keys.Flow id) (keys.Step i n))) (below_all key_cmp (keys.Flow id) ps) below).1
@@ -60,7 +60,7 @@ sorted-seen : (id : Text) (o : Option FlowRow) (fs : List Flow) → below_all by
 sorted-seen id None fs below sorted = sorted
 sorted-seen id (Some r) fs below sorted = and-true (below_all bytes_cmp id (rows_of fs)) _ below sorted
 
-sorted-flows : (ps : Map) → is_sorted key_cmp ps ≡ true → is_sorted bytes_cmp (rows_of (filter_map flow_seen ps)) ≡ true
+pub sorted-flows : (ps : Map) → is_sorted key_cmp ps ≡ true → is_sorted bytes_cmp (rows_of (filter_map flow_seen ps)) ≡ true
 sorted-flows [] sorted = refl
 sorted-flows ((keys.User table key, w) ∷ ps) sorted = sorted-flows ps (parts (below_all key_cmp (keys.User table key) ps) (is_sorted key_cmp ps) sorted).1
 sorted-flows ((keys.Step i n, w) ∷ ps) sorted = sorted-flows ps (parts (below_all key_cmp (keys.Step i n) ps) (is_sorted key_cmp ps) sorted).1

@@ -3,3 +3,4 @@ pub mod OfStates
 pub mod OfHistories
 pub mod OfPrograms
 pub mod OfQueues
+pub mod OfPending
