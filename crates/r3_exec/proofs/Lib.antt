@@ -1,5 +1,6 @@
 pub mod Commits
 pub mod Entered
+pub mod Few
 pub mod Leaving
 pub mod Maps
 pub mod Noting

@@ -28,6 +28,7 @@ use crate::stored::Stored;
 use r3_desk::Desk;
 use r3_entry::Entry;
 use r3_gate::Limit;
+use r3_laws::rows_follow;
 use r3_past::flow_row;
 use r3_rows::{FlowRow, Key, Writes};
 use r3_store::{CommitFault, reads_as_settled};
@@ -164,9 +165,13 @@ impl Exec {
         ensures noted { (h : List E) (e : E) (begun : Begun) → HasEntered self.old h e begun → IsChange h e.writes change.now →
             OnOk result (Keeps self.new (h ++ e ∷ []) begun) }
     {
+        rows_follow();
         match change {
             None => Ok(()),
-            Some((id, old)) => self.note_row(alloc, id, old.as_ref()),
+            Some((id, old)) => match self.note_row(alloc, id, old.as_ref()) {
+                Ok(()) => Ok(()),
+                Err(fault) => Err(fault),
+            },
         }
     }
 
