@@ -5,7 +5,7 @@ ghost use Rattle.std.specs.Option.{option_map, option_map_or};
 ghost use Rattle.std.specs.FinMap.{IsAntisymmetric};
 ghost use Rattle.r3_chain.specs.Versions.{first_past as past, kept_count, versions_of, installed, IsNext, has_room, without, key_set, version_at, present, range_at, trimmed_all};
 
-use crate::head::{Head, give_rooms, newest, set_newest};
+use crate::head::{Head, give_rooms, newest, replace_newest};
 use crate::node::{Node, first_past, last_upto, present_upto};
 use crate::trim::trim_heads;
 use r3_pool::{Pool, PoolFault};
@@ -101,13 +101,13 @@ impl<K: Ord + Drop, V: Drop> Chains<K, V> {
         ensures room { self.new.room ≡ without K.cmp key.now self.old.room }
         ensures cap { self.new.cap ≡ self.old.cap }
     {
-        let older = newest(&self.heads, key);
-        let slot = self.nodes.put(Node {
+        let slot = self.nodes.next();
+        let older = replace_newest(&mut self.heads, key, slot);
+        self.nodes.put(Node {
             index,
             value,
             older,
         });
-        set_newest(&mut self.heads, key, slot);
     }
 
     /// The value as of the index, with its version.

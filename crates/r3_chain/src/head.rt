@@ -28,10 +28,11 @@ pub fn newest<K: Ord>(heads: &BTreeMap<K, Head>, key: &K) -> Option<Slot>
     }
 }
 
-/// Makes the slot the key's newest version, and uses up its room.
-pub fn set_newest<K: Ord>(heads: &mut BTreeMap<K, Head>, key: &K, slot: Slot)
+/// Makes the slot the key's newest version, and uses up its room. It tells the slot of the version before.
+pub fn replace_newest<K: Ord>(heads: &mut BTreeMap<K, Head>, key: &K, slot: Slot) -> Option<Slot>
     requires { IsSome (find K.cmp key.now heads.old.entries) }
-    ensures { heads.new.entries ≡ put K.cmp key.now (written slot) heads.old.entries }
+    ensures older { result ≡ newest_in (find K.cmp key.now heads.old.entries) }
+    ensures heads { heads.new.entries ≡ put K.cmp key.now (written slot) heads.old.entries }
 {
     let head = Head {
         newest: Some(slot),
@@ -39,7 +40,11 @@ pub fn set_newest<K: Ord>(heads: &mut BTreeMap<K, Head>, key: &K, slot: Slot)
         before: 0,
     };
     match heads.get_mut(key) {
-        Some(old) => *old = head,
+        Some(old) => {
+            let older = old.newest;
+            *old = head;
+            older
+        }
         None => unreachable!(),
     }
 }

@@ -86,6 +86,18 @@ impl<T: Drop> Pool<T> {
         Ok(())
     }
 
+    /// The slot that the next value is put into.
+    pub fn next(&self) -> Slot
+        ensures { result ≡ next_slot self.now }
+    {
+        match self.freed.last() {
+            Some(slot) => *slot,
+            None => Slot {
+                index: self.cells.len() as u32,
+            },
+        }
+    }
+
     /// Puts a value into the slot that was freed last, else into the least that was never used.
     pub fn put(&mut self, value: T) -> Slot
         requires { 0 < self.old.spare }

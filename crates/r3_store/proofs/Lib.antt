@@ -11,3 +11,5 @@ pub mod Found
 pub mod Conflicts
 pub mod Publishes
 pub mod Follows
+pub mod FirstWriter
+pub mod Carried

@@ -1,6 +1,7 @@
 -- Which entries of a history wrote a key past a snapshot, and chains that stand for a history.
 use Rattle.std.specs.Prelude.{◌≡◌, ℕ, ◌+◌, ◌<◌, ◌≤◌, Bool, cond, ◌&&◌, nat_lt, true, T, List, [], ◌∷◌, length, fold, Option, Some, None}
-use Rattle.std.specs.List.{AllByRecursion}
+use Rattle.std.specs.Option.{option_map}
+use Rattle.std.specs.List.{AllByRecursion, enumerate_from, find, list_any}
 use Rattle.std.specs.FinMap.Entries.{is_sorted}
 use Rattle.r3_rows.specs.declared.rows.Key.{Key}
 use Rattle.r3_rows.specs.declared.rows.Cell.{Cell}
@@ -21,6 +22,11 @@ first_write h snap key = first_from 1 snap key h
 -- the first entry past the snapshot that wrote one of the keys
 abbrev pub first_conflict : List Entry → ℕ → List Key → Option ℕ
 first_conflict h snap keys = fold (λ least key. earlier least (first_write h snap key)) None keys
+
+-- the same, entry by entry
+abbrev pub first_writer : List Entry → ℕ → List Key → Option ℕ
+first_writer h snap keys =
+    option_map (λ e. e.0) (find (λ e. nat_lt snap e.0 && list_any (writes_key e.1) keys) (enumerate_from 1 h))
 
 -- the versions with those of one more entry
 abbrev pub all_installed : ℕ → List (Key × Option Cell) → Versions Key Cell → Versions Key Cell

@@ -15,7 +15,8 @@ use std::alloc::Global;
 fn install_one(chains: &mut Chains<Key, Cell>, index: u32, key: &Key, value: Option<Cell>)
     requires room { IsTrue (has_room key_cmp key.now chains.old.room) }
     requires next { IsNext key_cmp index key.now chains.old.versions }
-    ensures versions { chains.new.versions ≡ installed key_cmp index key.now value chains.old.versions }
+    ensures versions { chains.new.versions
+        ≡ installed key_cmp index key.now value chains.old.versions }
     ensures room { chains.new.room ≡ without key_cmp key.now chains.old.room }
 {
     chains.install(index, key, value)
@@ -24,7 +25,8 @@ fn install_one(chains: &mut Chains<Key, Cell>, index: u32, key: &Key, value: Opt
 fn install_write(chains: &mut Chains<Key, Cell>, index: u32, write: (Key, Option<Cell>))
     requires room { IsTrue (has_room key_cmp write.0 chains.old.room) }
     requires next { IsNext key_cmp index write.0 chains.old.versions }
-    ensures versions { chains.new.versions ≡ installed key_cmp index write.0 write.1 chains.old.versions }
+    ensures versions { chains.new.versions
+        ≡ installed key_cmp index write.0 write.1 chains.old.versions }
     ensures room { chains.new.room ≡ without key_cmp write.0 chains.old.room }
 {
     let (key, value) = write;
@@ -67,7 +69,8 @@ pub fn put_versions(
     writes: &Writes,
 ) -> Result<(), Memory>
     requires { (h : List Entry) × (index ≡ length h + 1) × StandFor chains.old.versions h 0 }
-    ensures { OnOk result (chains.new.versions ≡ all_installed index writes.now chains.old.versions) }
+    ensures { OnOk result (chains.new.versions
+        ≡ all_installed index writes.now chains.old.versions) }
 {
     let copy = writes.copy()?;
     let keys = WriteSet::of(alloc, writes)?;

@@ -16,5 +16,8 @@ mod rules;
 mod store;
 
 pub use fault::{CommitFault, OpenFault};
-pub use laws::{first_write_is, reads_as_settled};
+pub use laws::{
+    first_conflict_is, first_write_is, holds_beside_the_disk, holds_in_memory, may_follow,
+    reads_as_settled,
+};
 pub use store::Store;

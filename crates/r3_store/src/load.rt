@@ -74,7 +74,8 @@ fn add_entry(
     ensures follows { (h : List Entry) → count ≡ length h → StandFor chains.old.versions h 0 →
         IfOk result (λ e. Follows h e × StandFor chains.new.versions (h ++ e ∷ []) 0) }
     ensures unformed { (h : List Entry) → count ≡ length h → StandFor chains.old.versions h 0 →
-        result ≡ Err EntryFault.NotEntry → (e : Entry) → payload.now ≡ spelled e → IsEntry e → Follows h e → ⊥ }
+        result ≡ Err EntryFault.NotEntry → (e : Entry) → payload.now ≡ spelled e → IsEntry e →
+        Follows h e → ⊥ }
 {
     let entry = match decode(alloc, payload) {
         Ok(entry) => entry,
@@ -136,8 +137,11 @@ pub fn put_text(texts: &mut Vec<(u32, String)>, number: u32, act: Act)
 
 // Keeps the entry, or its program text alone.
 fn keep_entry(loaded: &mut Loaded, keep: bool, number: u32, entry: Entry) -> Result<(), Memory>
-    ensures entries { OnOk result (loaded.new.entries.items ≡ cond keep (loaded.old.entries.items ++ entry ∷ []) loaded.old.entries.items) }
-    ensures texts { OnOk result (map text_of loaded.new.texts.items ≡ cond keep (map text_of loaded.old.texts.items) (map text_of loaded.old.texts.items ++ text_at number entry.act)) }
+    ensures entries { OnOk result (loaded.new.entries.items
+        ≡ cond keep (loaded.old.entries.items ++ entry ∷ []) loaded.old.entries.items) }
+    ensures texts { OnOk result (map text_of loaded.new.texts.items
+        ≡ cond keep (map text_of loaded.old.texts.items)
+        (map text_of loaded.old.texts.items ++ text_at number entry.act)) }
     ensures chains { loaded.new.chains ≡ loaded.old.chains }
 {
     if keep {
@@ -170,11 +174,15 @@ fn load_one(
     requires bytes { length payload.now ≤ 2 ^ 23 }
     requires few { count < 1000000 }
     requires stands { (h : List Entry) × (count ≡ length h) × Loads loaded.old keep h }
-    ensures ok { (h : List Entry) → count ≡ length h → Loads loaded.old keep h → size h + (5 + length payload.now) ≤ 2 ^ 30 →
-        OnOk result ((e : Entry) × (payload.now ≡ spelled e) × Loads loaded.new keep (h ++ e ∷ [])) }
-    ensures unformed { (h : List Entry) → count ≡ length h → Loads loaded.old keep h → (k : ℕ) → result ≡ Err (OpenFault.NotFormed k) →
+    ensures ok { (h : List Entry) → count ≡ length h → Loads loaded.old keep h →
+        size h + (5 + length payload.now) ≤ 2 ^ 30 →
+        OnOk result ((e : Entry) × (payload.now ≡ spelled e)
+        × Loads loaded.new keep (h ++ e ∷ [])) }
+    ensures unformed { (h : List Entry) → count ≡ length h → Loads loaded.old keep h → (k : ℕ) →
+        result ≡ Err (OpenFault.NotFormed k) →
         (k ≡ length h + 1) × ((e : Entry) → payload.now ≡ spelled e → IsFormed (h ++ e ∷ []) → ⊥) }
-    ensures others { (result ≡ Err OpenFault.NotStore → ⊥) × ((k : ℕ) → result ≡ Err (OpenFault.Damaged k) → ⊥) × (result ≡ Err OpenFault.Disk → ⊥) }
+    ensures others { (result ≡ Err OpenFault.NotStore → ⊥)
+        × ((k : ℕ) → result ≡ Err (OpenFault.Damaged k) → ⊥) × (result ≡ Err OpenFault.Disk → ⊥) }
 {
     let entry = match add_entry(alloc, &mut loaded.chains, count, payload) {
         Ok(entry) => entry,
@@ -190,9 +198,12 @@ fn load_one(
 /// The history with these payloads, and its versions.
 pub fn load(alloc: Global, payloads: &[Vec<u8>], keep: bool) -> Result<Loaded, OpenFault>
     requires { Fits (bytes_of payloads.now) }
-    ensures ok { IfOk result (λ l. (h : List Entry) × (bytes_of payloads.now ≡ payloads_of h) × Loads l keep h) }
-    ensures not_formed { (k : ℕ) → result ≡ Err (OpenFault.NotFormed k) → AreUnformed (bytes_of payloads.now) k }
-    ensures others { (result ≡ Err OpenFault.NotStore → ⊥) × ((k : ℕ) → result ≡ Err (OpenFault.Damaged k) → ⊥) × (result ≡ Err OpenFault.Disk → ⊥) }
+    ensures ok { IfOk result (λ l. (h : List Entry)
+        × (bytes_of payloads.now ≡ payloads_of h) × Loads l keep h) }
+    ensures not_formed { (k : ℕ) → result ≡ Err (OpenFault.NotFormed k) →
+        AreUnformed (bytes_of payloads.now) k }
+    ensures others { (result ≡ Err OpenFault.NotStore → ⊥)
+        × ((k : ℕ) → result ≡ Err (OpenFault.Damaged k) → ⊥) × (result ≡ Err OpenFault.Disk → ⊥) }
 {
     let mut loaded = Loaded {
         chains: Chains::new(alloc, MAX_VERSIONS),

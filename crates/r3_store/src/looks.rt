@@ -74,7 +74,8 @@ fn range_as_of(
     hi: &Key,
     index: u32,
 ) -> Result<Vec<(Txt, u32)>, Memory>
-    ensures { IfOk result (λ keys. keys.items ≡ named_between lo.now hi.now (as_of index chains.now.versions)) }
+    ensures { IfOk result (λ keys.
+        keys.items ≡ named_between lo.now hi.now (as_of index chains.now.versions)) }
 {
     let keys = chains.range(alloc, lo, hi, index)?;
     let names = names_of(alloc, &keys)?;
@@ -91,7 +92,8 @@ pub fn rows_as_of(
     hi: &Txt,
     index: u32,
 ) -> Result<Vec<(Txt, u32)>, Memory>
-    ensures { IfOk result (λ keys. keys.items ≡ range_in (as_of index chains.now.versions) table.now lo.now hi.now) }
+    ensures { IfOk result (λ keys.
+        keys.items ≡ range_in (as_of index chains.now.versions) table.now lo.now hi.now) }
 {
     let from = row_of(table, lo)?;
     let to = row_of(table, hi)?;
@@ -118,7 +120,8 @@ pub fn texts_between(
     hi: &str,
     index: u32,
 ) -> Result<Vec<(Txt, u32)>, Memory>
-    ensures { IfOk result (λ keys. keys.items ≡ range_in (as_of index chains.now.versions) table.now lo.now hi.now) }
+    ensures { IfOk result (λ keys.
+        keys.items ≡ range_in (as_of index chains.now.versions) table.now lo.now hi.now) }
 {
     let table = txt_of(alloc, table)?;
     let lo = txt_of(alloc, lo)?;
@@ -214,7 +217,8 @@ fn is_read_again(
     read: &Read,
 ) -> Result<bool, Memory>
     requires { T (is_sorted key_cmp chains.now.versions) }
-    ensures { IfOk result (λ b. IsTrue b ↔ (read.now ≡ look_in (as_of index chains.now.versions) read.now)) }
+    ensures { IfOk result (λ b. IsTrue b
+        ↔ (read.now ≡ look_in (as_of index chains.now.versions) read.now)) }
 {
     let again = look_again(alloc, chains, index, read)?;
     Ok(read.same(&again))
@@ -228,7 +232,8 @@ pub fn are_read_again(
     reads: &[Read],
 ) -> Result<bool, Memory>
     requires { T (is_sorted key_cmp chains.now.versions) }
-    ensures { IfOk result (λ b. IsTrue b ↔ AllByRecursion (λ r. r ≡ look_in (as_of index chains.now.versions) r) reads.now) }
+    ensures { IfOk result (λ b. IsTrue b
+        ↔ AllByRecursion (λ r. r ≡ look_in (as_of index chains.now.versions) r) reads.now) }
 {
     'reads: for read in reads {
         if !is_read_again(alloc, chains, index, read)? {

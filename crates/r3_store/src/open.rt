@@ -37,7 +37,8 @@ pub fn read_history<D: Desk>(
     keep: bool,
 ) -> Result<(Gate, Loaded), OpenFault>
     requires { NothingPending (D.image desk.old) (D.may_leave desk.old) }
-    ensures ok { IfOk result (λ r. (h : List Entry) × Reads D.size D.image D.may_leave desk.new r.0 r.1 keep h) }
+    ensures ok { IfOk result (λ r.
+        (h : List Entry) × Reads D.size D.image D.may_leave desk.new r.0 r.1 keep h) }
     ensures causes { IfErr result (IsCaused (D.image desk.old)) }
     ensures on_history { (h : List Entry) → ForSome (D.image desk.old) (λ i. IsHistoryOf h i →
         MatchResult result (λ r. Reads D.size D.image D.may_leave desk.new r.0 r.1 keep h) IsStopped) }
@@ -47,12 +48,15 @@ pub fn read_history<D: Desk>(
         IsErrAnd result (λ f. (f ≡ OpenFault.Damaged k) ⊎ IsStopped f)) }
     ensures on_unformed { (k : ℕ) → ForSome (D.image desk.old) (λ i. IsUnformed i k →
         IsErrAnd result (λ f. (f ≡ OpenFault.NotFormed k) ⊎ IsStopped f)) }
-    ensures crash { LeavesImage D.moment D.reach D.may_leave D.said D.asked desk.old desk.new (λ c. D.image desk.old ≡ Some c) }
+    ensures crash { LeavesImage D.moment D.reach D.may_leave D.said D.asked desk.old desk.new
+        (λ c. D.image desk.old ≡ Some c) }
     ensures quiet { NothingPending (D.image desk.new) (D.may_leave desk.new) }
     ensures image { D.image desk.new ≡ D.image desk.old }
     ensures syncs { D.syncs desk.new ≡ D.syncs desk.old }
-    ensures disk { IsErrOf result OpenFault.Disk → Rose (D.disk_faults desk.old) (D.disk_faults desk.new) }
-    ensures no_fault { (IsErrOf result OpenFault.Disk → ⊥) → D.disk_faults desk.new ≡ D.disk_faults desk.old }
+    ensures disk { IsErrOf result OpenFault.Disk →
+        Rose (D.disk_faults desk.old) (D.disk_faults desk.new) }
+    ensures no_fault { (IsErrOf result OpenFault.Disk → ⊥) →
+        D.disk_faults desk.new ≡ D.disk_faults desk.old }
     ensures said { D.said desk.new ≡ D.said desk.old }
     ensures asked { D.asked desk.new ≡ D.asked desk.old }
     ensures say_faults { D.say_faults desk.new ≡ D.say_faults desk.old }

@@ -131,7 +131,8 @@ fn writes_fit(
 ) -> bool
     requires sorted { T (is_sorted key_cmp chains.now.versions) }
     requires few { count < 1000000 }
-    ensures { IsTrue result ↔ AllByRecursion (IsWriteIn (as_of count chains.now.versions) count snap) writes.now }
+    ensures { IsTrue result
+        ↔ AllByRecursion (IsWriteIn (as_of count chains.now.versions) count snap) writes.now }
 {
     'writes: for write in writes {
         if !write_fits(chains, count, snap, write) {
@@ -242,7 +243,8 @@ pub fn have_flows(
     writes: &[(Key, Option<Cell>)],
 ) -> Result<bool, Memory>
     requires { T (is_sorted key_cmp chains.now.versions) }
-    ensures { IfOk result (λ b. IsTrue b ↔ AllByRecursion (λ w. HasFlow (as_of index chains.now.versions) w.0) writes.now) }
+    ensures { IfOk result (λ b. IsTrue b
+        ↔ AllByRecursion (λ w. HasFlow (as_of index chains.now.versions) w.0) writes.now) }
 {
     'writes: for write in writes {
         if !has_flow(chains, index, &write.0)? {
