@@ -1,6 +1,5 @@
 -- The indexes once an entry's change of a workflow's row is noted.
 use Rattle.std.proofs.Common.{◌≡◌, ℕ, ◌+◌, ◌<◌, ◌≤◌, ◌-◌, ◌^◌, List, [], ◌∷◌, ◌++◌, length, map, Option, Some, None, sym, ap, ◌∙◌, subst}
-use Rattle.std.specs.List.Sorted.{IsPermutation}
 use Rattle.std.specs.FinMap.Entries.{put}
 use Rattle.r3_rows.specs.declared.rows.FlowRow.{FlowRow}
 use Rattle.r3_entry.specs.declared.entry.Entry.{Entry}
@@ -16,7 +15,7 @@ use Rattle.r3_store.specs.Holds as store
 use Rattle.r3_store.specs.declared.store.Store.{Store}
 use Rattle.r3_laws.specs.OfPending.{RowsFollow, RowsTell}
 use Rattle.r3_exec.specs.Placed.{IsChange, HasEntered, changed}
-use Rattle.r3_exec.specs.Runs.{Keeps, rows_now}
+use Rattle.r3_exec.specs.Runs.{ArePinned, Keeps, rows_now}
 use Rattle.r3_exec.specs.declared.exec.Exec.{Exec}
 use Rattle.r3_exec.proofs.Rows.{find_now, same_now, changed_now, id_short, follows_last}
 use Rattle.r3_exec.proofs.Few.{few_now}
@@ -36,6 +35,7 @@ module _ (tell : RowsTell) (follow : RowsFollow) where
       let same = sym (same_now tell follow h e (follows_last h e entered.store.formed) change) in record {
         store = entered.store;
         snapshots = entered.snapshots;
+        in_order = entered.in_order;
         pins = entered.pins;
         declared = entered.declared;
         queues = subst (λ (rows : Rows). queues.IsIndexOf exec.queues rows) same entered.queues;
@@ -55,7 +55,8 @@ module _ (tell : RowsTell) (follow : RowsFollow) where
       record {
         store = subst (λ (s : Store). store.Stands s (h ++ e ∷ [])) (sym store_same) entered.store;
         snapshots = ap (λ b. b.entries) begun_same ∙ entered.snapshots;
-        pins = subst (λ (s : Store). IsPermutation s.pins (map (λ (b : Text × ℕ). b.1) begun)) (sym store_same) entered.pins;
+        in_order = entered.in_order;
+        pins = subst (λ (s : Store). ArePinned s.pins begun) (sym store_same) entered.pins;
         declared = declared ∙ entered.declared ∙ ap (λ p. declared_of (new_lines p)) (sym program);
         queues = subst (λ (rows : Rows). queues.IsIndexOf new.queues rows) (sym c.1) (f.0 (rows_now h) entered.queues found (few_now h e entered.store.formed));
         pending = subst (λ (rows : Rows). pending.IsIndexOf new.pending rows) (sym c.1) (f.1 (rows_now h) entered.pending found);

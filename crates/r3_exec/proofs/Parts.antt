@@ -1,12 +1,11 @@
 -- An executor of which the store alone has changed.
 use Rattle.std.proofs.Common.{◌≡◌, ℕ, List, length, map, sym, subst}
-use Rattle.std.specs.List.Sorted.{IsPermutation}
 use Rattle.r3_entry.specs.declared.entry.Entry.{Entry}
 use Rattle.r3_store.specs.Holds as store
 use Rattle.r3_store.specs.declared.store.Store.{Store}
 use Rattle.r3_model.specs.Language.{Text}
 use Rattle.r3_model.specs.Machine.{State, Begun}
-use Rattle.r3_exec.specs.Runs.{Keeps, Stands}
+use Rattle.r3_exec.specs.Runs.{ArePinned, Keeps, Stands}
 use Rattle.r3_exec.specs.declared.exec.Exec.{Exec}
 
 -- the store stands for the same history, with the same pins
@@ -15,7 +14,8 @@ pub keeps_with : (exec : Exec) (h : List Entry) (begun : Begun) (s : Store) → 
 keeps_with exec h begun s old new same = record {
   store = new;
   snapshots = old.snapshots;
-  pins = subst (λ (ps : List ℕ). IsPermutation ps (map (λ (b : Text × ℕ). b.1) begun)) (sym same) old.pins;
+  in_order = old.in_order;
+  pins = subst (λ (ps : List ℕ). ArePinned ps begun) (sym same) old.pins;
   declared = old.declared;
   queues = old.queues;
   pending = old.pending;

@@ -1,11 +1,12 @@
 -- What became of an entry, before its event closes a snapshot.
-use Rattle.std.specs.Prelude.{◌≡◌, ◌≤◌, ℕ, ◌+◌, map, List, [], ◌∷◌, ◌++◌, length, Option, Some, None}
+use Rattle.std.specs.FinMap.Entries.{is_sorted}
+use Rattle.r3_rows.specs.Keys.{bytes_cmp}
+use Rattle.std.specs.Prelude.{T, ◌≡◌, ◌≤◌, ℕ, ◌+◌, map, List, [], ◌∷◌, ◌++◌, length, Option, Some, None}
 use Rattle.r3_entry.specs.declared.entry.Entry.{Entry}
 use Rattle.r3_rows.specs.declared.rows.Key.{Key}
 use Rattle.r3_rows.specs.declared.rows.Key.TheVariants as keys
 use Rattle.r3_rows.specs.declared.rows.Cell.{Cell}
 use Rattle.r3_rows.specs.declared.rows.Cell.TheVariants as cells
-use Rattle.std.specs.List.Sorted.{IsPermutation}
 use Rattle.r3_rows.specs.declared.rows.FlowRow.{FlowRow}
 use Rattle.r3_entry.specs.Limits.{IsEntry}
 use Rattle.r3_store.specs.Holds as store
@@ -17,7 +18,7 @@ use Rattle.r3_model.specs.Rows.{flow_at}
 use Rattle.r3_model.specs.Language.{Text}
 use Rattle.r3_model.specs.Machine.{Begun, full_of}
 use Rattle.r3_exec.specs.Ends.{limit_of}
-use Rattle.r3_exec.specs.Runs.{Keeps, rows_now}
+use Rattle.r3_exec.specs.Runs.{ArePinned, Keeps, rows_now}
 use Rattle.r3_exec.specs.declared.exec.Exec.{Exec}
 use Rattle.r3_exec.specs.declared.commit.Placed.{Placed}
 use Rattle.r3_exec.specs.declared.commit.Placed.TheVariants.{Number, Full, Conflict}
@@ -38,7 +39,8 @@ IsChange h writes (Some c) = (changed writes ≡ Some c.0) × (c.1 ≡ flow_at h
 pub record HasEntered (exec : Exec) (h : List Entry) (e : Entry) (begun : Begun) : Type 0 where
   pub store : store.Stands exec.store (h ++ e ∷ [])
   pub snapshots : exec.begun.entries ≡ begun
-  pub pins : IsPermutation exec.store.pins (map (λ (b : Text × ℕ). b.1) begun)
+  pub in_order : T (is_sorted bytes_cmp begun)
+  pub pins : ArePinned exec.store.pins begun
   pub declared : declared_of exec.queues ≡ declared_of (new_lines exec.program)
   pub queues : queues.IsIndexOf exec.queues (rows_now h)
   pub pending : pending.IsIndexOf exec.pending (rows_now h)

@@ -1,6 +1,8 @@
 -- An executor, and the state of the machine that it is in.
-use Rattle.std.specs.Prelude.{◌≡◌, ℕ, List, Option, length, map}
-use Rattle.std.specs.List.Sorted.{IsPermutation}
+use Rattle.std.specs.Prelude.{◌≡◌, ℕ, List, Option, length, nat_eq, sum_by, T, if◌then◌else◌}
+use Rattle.std.specs.Map.{values_of}
+use Rattle.std.specs.FinMap.Entries.{is_sorted}
+use Rattle.r3_rows.specs.Keys.{bytes_cmp}
 use Rattle.r3_entry.specs.declared.entry.Entry.{Entry}
 use Rattle.r3_store.specs.Holds as store
 use Rattle.fn_tree.specs.declared.program.Item.{Item}
@@ -24,12 +26,20 @@ language exec = language_of exec.program
 abbrev pub rows_now : List Entry → Rows
 rows_now h = rows_of (flows_at h (length h))
 
+abbrev pub is_one : ℕ → ℕ → ℕ
+is_one s x = if nat_eq s x then 1 else 0
+
+-- each snapshot is pinned as often as it is open
+abbrev pub ArePinned : List ℕ → Begun → Type 0
+ArePinned pins begun = (s : ℕ) → sum_by (is_one s) pins ≡ sum_by (is_one s) (values_of begun)
+
 -- What is in memory stands for a history and the open snapshots.
 pub record Keeps (exec : Exec) (h : List Entry) (begun : Begun) : Type 0 where
   pub store : store.Stands exec.store h
   pub snapshots : exec.begun.entries ≡ begun
+  pub in_order : T (is_sorted bytes_cmp begun)
   -- each open snapshot is pinned once
-  pub pins : IsPermutation exec.store.pins (map (λ (b : Text × ℕ). b.1) begun)
+  pub pins : ArePinned exec.store.pins begun
   pub declared : declared_of exec.queues ≡ declared_of (new_lines exec.program)
   pub queues : queues.IsIndexOf exec.queues (rows_now h)
   pub pending : pending.IsIndexOf exec.pending (rows_now h)

@@ -11,6 +11,7 @@ mod commit;
 mod dequeue;
 mod ends;
 mod exec;
+mod snapshots;
 mod stored;
 mod turn;
 
