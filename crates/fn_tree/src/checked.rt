@@ -1,6 +1,7 @@
 //! Programs that the checker finds nothing wrong in.
 
 ghost use Rattle.std.specs.Prelude.{◌≡◌, IfOk};
+ghost use Rattle.fn_tree.specs.Literals.{HoldsValues};
 ghost use Rattle.fn_tree.specs.Soundness.{IsSound};
 
 use crate::program::{Program, copy_items};
@@ -25,11 +26,12 @@ impl Model for Checked {
 
     ghost coded = { Prim.hlevel (codes, expr.the_row.coded, stmt.the_row.coded) };
 
+    ghost use Rattle.fn_tree.specs.Literals.{HoldsValues};
     ghost use Rattle.fn_tree.specs.Soundness.{IsSound};
 
     ghost view = { λ c. c.program.items.items };
 
-    ghost invariant = { λ c. IsSound c.program.items.items };
+    ghost invariant = { λ c. IsSound c.program.items.items × HoldsValues c.program.items.items };
 }
 
 impl Checked {
@@ -47,6 +49,13 @@ impl Checked {
         ensures sound { IsSound self.now }
     {
         &self.program
+    }
+
+    /// Its names and literals are such as a value can hold.
+    pub fn holds_values(&self)
+        ensures { HoldsValues self.now }
+    {
+        let _ = &self.program;
     }
 
     /// A copy, or want of memory.
