@@ -4,6 +4,7 @@ ghost use Rattle.std.specs.Prelude.{◌≡◌, IfOk};
 ghost use Rattle.fn_tree.specs.Literals.{HoldsValues};
 ghost use Rattle.fn_tree.specs.Soundness.{IsSound};
 
+use crate::literals::walk;
 use crate::program::{Program, copy_items};
 use r3_value::Memory;
 use std::marker::Model;
@@ -40,6 +41,7 @@ impl Checked {
         requires sound { IsSound program.items.items }
         ensures { result ≡ program.items.items }
     {
+        walk(program.items.as_slice());
         Checked { program }
     }
 
