@@ -10,7 +10,8 @@ use r3_value::Memory;
 use std::marker::Model;
 
 /// A sound program, which contracts see as its items: one that the checker finds nothing wrong in,
-/// whose names have 1 to 64 bytes and whose items have at most 16 parameters.
+/// whose names have 1 to 64 bytes and whose items have at most 16 parameters. A value can hold each
+/// of its literals.
 #[derive(Drop)]
 pub struct Checked {
     program: Program,

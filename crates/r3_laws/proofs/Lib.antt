@@ -66,3 +66,7 @@ pub mod FittedCases
 pub mod KeepsValid
 pub mod Light
 pub mod QueueRule
+pub mod NamedItems
+pub mod TxnLimits
+pub mod FlowLimits
+pub mod ProgramLimits
