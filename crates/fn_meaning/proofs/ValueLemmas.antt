@@ -30,7 +30,7 @@ pub text_utf8 : (t : List ℕ) → is_text t ≡ true → is_utf8 t ≡ true
 text_utf8 t h = (and_parts (is_utf8 t) (nat_lt (length t) 4092) h).0
 
 pub text_short : (t : List ℕ) → is_text t ≡ true → length t ≤ 4091
-text_short t h = let less_than : length t < 4092 = ltb-true (length t) 4092 (and_parts (is_utf8 t) (nat_lt (length t) 4092) h).1 in omega arith
+text_short t h = let less_than : length t < 4092 = ltb-true (length t) 4092 (and_parts (is_utf8 t) (nat_lt (length t) 4092) h).1 in omega (arith, less_than)
 
 pub text_is : (t : List ℕ) → is_utf8 t ≡ true → length t ≤ 4091 → is_text t ≡ true
 text_is t u short = and_from (is_utf8 t) (nat_lt (length t) 4092) u (lt-ltb (length t) 4092 (omega arith))
@@ -80,8 +80,8 @@ pub truth_val : (b : Bool) → IsVal (Truth b)
 truth_val b = record { proper = tt; small = omega arith; shallow = omega arith }
 
 pub fits_signed : (z : ℤ) → fits_i64 z ≡ true → FitsSigned w64 z
-fits_signed (pos n) h = let less_than : n < 2 ^ 63 = ltb-true n (2 ^ 63) h in record { sfits = omega arith }
-fits_signed (negsuc n) h = let less_than : n < 2 ^ 63 = ltb-true n (2 ^ 63) h in record { sfits = omega arith }
+fits_signed (pos n) h = let less_than : n < 2 ^ 63 = ltb-true n (2 ^ 63) h in record { sfits = omega (arith, less_than) }
+fits_signed (negsuc n) h = let less_than : n < 2 ^ 63 = ltb-true n (2 ^ 63) h in record { sfits = omega (arith, less_than) }
 
 pub int_val : (z : ℤ) → FitsSigned w64 z → IsVal (Int z)
 int_val z h = record { proper = h; small = omega arith; shallow = omega arith }

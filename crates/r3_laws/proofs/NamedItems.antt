@@ -36,12 +36,12 @@ name-fits s e t =
     let parts = and_parts (nat_lt 0 (length s)) (nat_lt (length s) 65) e in
     let long : 0 < length s = ltb-true 0 (length s) parts.0 in
     let short : length s < 65 = ltb-true (length s) 65 parts.1 in
-    record { long = omega arith; short = omega arith; utf8 = text_utf8 s t }
+    record { long = omega (arith, long); short = omega (arith, short); utf8 = text_utf8 s t }
 
 one-named : (i : Item) → are_names (names_in i) ≡ true → nat_lt (length (params_of i)) 17 ≡ true → item_fits i ≡ true → IsNamed i
 one-named i e f g =
     let few : length (params_of i) < 17 = ltb-true (length (params_of i)) 17 f in
-    record { name = name-fits (name_of i) (and_first (is_name (name_of i)) (are_names (params_of i ++ body_names i)) e) (item_text i g); few = omega arith }
+    record { name = name-fits (name_of i) (and_first (is_name (name_of i)) (are_names (params_of i ++ body_names i)) e) (item_text i g); few = omega (arith, few) }
 
 named-all : (items : List Item) → each_passes (λ i. are_names (names_in i)) items ≡ true → each_passes (λ i. nat_lt (length (params_of i)) 17) items ≡ true → each_passes item_fits items ≡ true → AllByRecursion IsNamed items
 named-all [] e f g = tt

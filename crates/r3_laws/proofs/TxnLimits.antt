@@ -42,10 +42,10 @@ any-text t w = record { long = omega arith; short = text_short t w; utf8 = text_
 
 row-key : (t : List ℕ) → fits_key t ≡ true → IsWord t → IsRowKey t
 row-key [] e w = absurd cc
-row-key (b ∷ bs) e w = let short : length bs < 256 = ltb-true (length bs) 256 e in record { long = omega arith; short = omega arith; utf8 = text_utf8 (b ∷ bs) w }
+row-key (b ∷ bs) e w = let short : length bs < 256 = ltb-true (length bs) 256 e in record { long = omega arith; short = omega (arith, short); utf8 = text_utf8 (b ∷ bs) w }
 
 bound-fits : (t : List ℕ) → fits_bound t ≡ true → IsWord t → IsBound t
-bound-fits t e w = let short : length t < 257 = ltb-true (length t) 257 e in record { long = omega arith; short = omega arith; utf8 = text_utf8 t w }
+bound-fits t e w = let short : length t < 257 = ltb-true (length t) 257 e in record { long = omega arith; short = omega (arith, short); utf8 = text_utf8 t w }
 
 pub unknown-any : IsAnyText (codes "unknown_function")
 unfolding is_utf8 chars encode
@@ -147,7 +147,7 @@ module _ (items : List Item) (named : AllByRecursion IsNamed items) (base : Vers
       (λ e. stays_if IsLogWithin NoAsk good (nat_lt 4096 (read_items at.world.looks + items_of_look l)) _ _ (λ f. (size_word, i))
       (λ f. let few : read_items at.world.looks + items_of_look l ≤ 4096 = ltb-false 4096 (read_items at.world.looks + items_of_look l) f in
       h (record at { world = record { looks = at.world.looks ++ l ∷ []; writes = at.world.writes } })
-      (i.0, record { looks = looks-last at.world.looks l i.1.looks (is (omega arith)); writes = i.1.writes })))
+      (i.0, record { looks = looks-last at.world.looks l i.1.looks (is (omega (arith, few))); writes = i.1.writes })))
 
   got-by-kept : (o : Option (Option Val)) → Written o → (table key : List ℕ) → IsName table → IsRowKey key → (at : At Log) → AtWithin IsLogWithin at → Stays IsLogWithin NoAsk IsVal (got_by base o table key at)
   got-by-kept (Some left) w table key name is at i = (or-null-val left w, i)
