@@ -1,6 +1,6 @@
 -- A body of a sound program keeps the values that are bound within the limits, wherever it ends or asks.
 use Rattle.std.proofs.Common.{◌≡◌, subst, ℕ, zero, suc, ◌+◌, Bool, true, false, not, List, [], ◌∷◌, ◌++◌, Option, Some, None, refl, ap, sym, ◌∙◌, length, take, arith}
-use Rattle.std.specs.Prelude.{map, codes, if◌then◌else◌, ◌&&◌, ◌||◌}
+use Rattle.std.specs.Prelude.{map, if◌then◌else◌, ◌&&◌, ◌||◌}
 use Rattle.std.specs.Str.{bytes_eq}
 use Rattle.r3_value.specs.View.{items_of}
 use Rattle.r3_value.specs.declared.value.Outcome.{Outcome}
@@ -19,7 +19,7 @@ use Rattle.fn_tree.specs.declared.stmt.Stmt.TheFolds.{map-Stmt, fold-roll-Stmt}
 use Rattle.fn_tree.specs.Expression.{Binding, End, Gives, Fails, Stuck as NoEnd, Calls, evaluated, values_onto}
 use Rattle.fn_tree.specs.Literals.{all_fit, expr_fits, exprs_fit, ask_fits, rhs_fits, statement_fits, stmt_fits, body_fits}
 use Rattle.fn_tree.specs.Sequences.{list_or_size}
-use Rattle.fn_tree.specs.Soundness.{Scope, Body, Binds, contains, any, is_table, is_some, is_txn, is_flow, expr_is_sound, same_if, with_new, after, all_in_order, block_is_sound, block_with as block_sound_with, ask_is_sound, rhs_is_sound, statement_binds, binds, body_is_sound}
+use Rattle.fn_tree.specs.Soundness.{Scope, Body, Binds, contains, any, is_table, is_some, is_txn, expr_is_sound, same_if, with_new, after, all_in_order, block_is_sound, block_with as block_sound_with, rhs_is_sound, statement_binds, binds, body_is_sound}
 use Rattle.fn_tree.specs.Statement.{At, Ends, Goes, Returns, Failed, Asks, Stuck, Effects, Act, and_then, is_bound, assigned, bind, is_caught, ended, taken, text_or_type, bool_or_type, list_or_type, one_unit_less, with_unit, closed, in_order, block, block_with, chosen, turns, for_each, caught, value, condition, list_value, text_value, arguments, asked, given, statement, acted, body_of}
 use Rattle.fn_tree.specs.Values.{bool_of, text_of, items_of as list_of}
 use Rattle.fn_meaning.specs.ValueLimits.{IsVal, AreVals, IsWord, IsOutcome, AreBindings, GivesWithin}

@@ -1,5 +1,5 @@
 -- What an expression gives is within the limits.
-use Rattle.std.proofs.Common.{◌≡◌, subst, ℕ, zero, suc, ◌+◌, Bool, true, false, List, [], ◌∷◌, ◌++◌, Option, Some, None, refl, sym, ◌∙◌, length, arith, length-append}
+use Rattle.std.proofs.Common.{◌≡◌, subst, ℕ, zero, suc, ◌+◌, Bool, true, false, List, [], ◌∷◌, ◌++◌, Option, Some, None, sym, ◌∙◌, length, arith, length-append}
 use Rattle.std.specs.Prelude.{map, if◌then◌else◌, ◌&&◌, nat_eq}
 use Rattle.std.specs.List.{fold}
 use Rattle.std.specs.Str.{bytes_eq}
@@ -18,7 +18,7 @@ use Rattle.fn_tree.specs.Literals.{is_text, all_fit, node_fits, expr_fits, exprs
 use Rattle.fn_tree.specs.Sequences.{list_or_size}
 use Rattle.fn_tree.specs.Soundness.{each_passes}
 use Rattle.fn_tree.specs.Values.{bool_of}
-use Rattle.fn_meaning.specs.ValueLimits.{IsVal, AreVals, IsWord, IsOutcome, AreBindings, GivesWithin, ExpressionsStayWithin}
+use Rattle.fn_meaning.specs.ValueLimits.{IsVal, AreVals, IsOutcome, AreBindings, GivesWithin, ExpressionsStayWithin}
 use Rattle.fn_meaning.proofs.ExpressionLemmas.{Shown, by_levels, evaluated_roll}
 use Rattle.fn_meaning.proofs.SoundExpression.{and_first, and_second}
 use Rattle.fn_meaning.proofs.ValueLemmas.{text_val, null_val, truth_val, int_val, fits_signed, type_within, budget_word, are_proper, list_within, sum_within, difference_within, product_within, quotient_within, remainder_within, negated_within, equal_within, unequal_within, less_within, less_or_equal_within, greater_within, greater_or_equal_within, inverted_within, truth_within, joined_within, length_within, shown_within, indexed_within}

@@ -1,6 +1,6 @@
 -- Operators on values within the limits give such values, or fail with a text.
-use Rattle.std.proofs.Common.{◌≡◌, subst, ℕ, zero, suc, ◌+◌, ◌≤◌, ◌<◌, ◌^◌, ℤ, Bool, true, false, not, List, [], ◌∷◌, ◌++◌, length, Option, Some, None, refl, sym, arith, length-append}
-use Rattle.std.specs.Prelude.{pos, negsuc, ◌+ℤ◌, ◌-ℤ◌, ◌*ℤ◌, neg_ℤ, int_div, int_rem, int_lt, int_le, nat_lt, codes, ◌&&◌, if◌then◌else◌, Result, Ok, Err, FitsSigned, unsigned_abs}
+use Rattle.std.proofs.Common.{◌≡◌, subst, ℕ, zero, suc, ◌+◌, ◌≤◌, ◌<◌, ◌^◌, ℤ, Bool, true, false, not, List, [], ◌∷◌, ◌++◌, length, Option, Some, None, refl, sym, arith}
+use Rattle.std.specs.Prelude.{pos, negsuc, ◌+ℤ◌, ◌-ℤ◌, ◌*ℤ◌, neg_ℤ, int_div, int_rem, int_lt, int_le, nat_lt, codes, if◌then◌else◌, Ok, Err, FitsSigned}
 use Rattle.std.specs.Int.{w64}
 use Rattle.std.specs.Fmt.{signed_decimal}
 use Rattle.std.specs.Str.{is_utf8, chars}
@@ -14,7 +14,7 @@ use Rattle.r3_value.specs.declared.value.Outcome.{Outcome}
 use Rattle.r3_value.specs.declared.value.Outcome.TheVariants.{Value, Failure}
 use Rattle.r3_value.specs.declared.value.Val.{Val}
 use Rattle.r3_value.specs.declared.value.Val.TheVariants.{Null, Bool as Truth, Int, Text, List as ListOf}
-use Rattle.r3_value.specs.Value.{Value as Plain, null, boolean, integer, text, list, Items, no_items, item, weight, weights, depth, depths, IsProper, AreProper, IsValue}
+use Rattle.r3_value.specs.Value.{Value as Plain, null, boolean, integer, text, list, Items, no_items, item, weight, weights, depth, depths, AreProper, IsValue}
 use Rattle.r3_value.specs.View.{value_of, val_of, vals_of, items_of}
 use Rattle.r3_value.proofs.ItemsLemmas.{weight-pos}
 use Rattle.fn_tree.specs.Arithmetic.{type_failure, fits_i64, int_or_overflow, on_ints, on_int, divided, sum, difference, product, quotient, remainder, negated}

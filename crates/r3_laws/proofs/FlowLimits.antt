@@ -19,7 +19,7 @@ use Rattle.fn_tree.specs.declared.flow.Request.{Request}
 use Rattle.fn_tree.specs.declared.program.Item.{Item}
 use Rattle.fn_tree.specs.declared.program.Item.TheVariants as item
 use Rattle.fn_tree.specs.declared.stmt.Stmt.{Stmt}
-use Rattle.fn_tree.specs.Ends.{At, Ends, Goes, Returns, Failed, Asks, Stuck}
+use Rattle.fn_tree.specs.Ends.{Goes, Returns, Failed, Asks, Stuck}
 use Rattle.fn_tree.specs.Expression.{calls_of}
 use Rattle.fn_tree.specs.Flow.{Place, Left, ask, ask_or_stuck, on_asks, answered, flow_begun, begun_on, begun_among, flow_of}
 use Rattle.fn_tree.specs.Literals.{is_text, item_fits, body_fits, HoldsValues}

@@ -1,4 +1,3 @@
-use Rattle.fn_meaning.proofs.ValueBodies.{body_kept}
 use Rattle.fn_meaning.proofs.ValueExpressions.{expressions_stay_within}
 use Rattle.fn_meaning.proofs.laws.values_stay_within.Goals as goal
 
