@@ -39,5 +39,6 @@ GivesWithin good Stuck = Unit {0}
 
 -- Where the literals of a program are values, and what is bound, so is what an expression gives.
 abbrev pub ExpressionsStayWithin : Type 0
-ExpressionsStayWithin = (items : List Item) (e : Expr) (env : List Binding) (units cost : ℕ) → HoldsValues items → expr_fits e ≡ true → AreBindings env
+ExpressionsStayWithin = (items : List Item) (e : Expr) (env : List Binding) (units cost : ℕ)
+    → HoldsValues items → expr_fits e ≡ true → AreBindings env
     → GivesWithin IsVal (evaluated (calls_of items) e env units cost)

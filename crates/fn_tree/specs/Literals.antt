@@ -1,4 +1,4 @@
--- Which programs hold only what a value may hold: numbers of 64 bits, and texts in UTF-8 of at most 4,091 bytes.
+-- Which programs hold only what a value can hold: numbers of 64 bits, texts of at most 4,091 bytes.
 use Rattle.fn_tree.specs.declared.expr.Expr.{Expr}
 use Rattle.fn_tree.specs.declared.expr.Expr.TheFolds.{fold-Expr}
 use Rattle.fn_tree.specs.declared.expr.Expr.TheOpen.{Expr-F}
@@ -16,7 +16,7 @@ use Rattle.fn_tree.specs.declared.stmt.Rhs.TheVariants as rhs
 use Rattle.fn_tree.specs.Arithmetic.{fits_i64}
 use Rattle.fn_tree.specs.Soundness.{name_of, each_passes}
 
--- a text that a value can hold
+-- a text that a value can hold: in UTF-8, and not too long
 abbrev pub is_text : List ℕ → Bool
 is_text s = is_utf8 s && nat_lt (length s) 4092
 
@@ -104,6 +104,6 @@ item_fits (item.Txn serial name params body) = is_text name && body_fits body
 item_fits (item.Flow name params body) = is_text name && body_fits body
 item_fits i = is_text (name_of i)
 
--- A program whose names of items and literals are such as a value can hold. Each program that is built is one.
+-- The names of a program's items and its literals are such as a value can hold.
 abbrev pub HoldsValues : List Item → Type 0
 HoldsValues items = each_passes item_fits items ≡ true
