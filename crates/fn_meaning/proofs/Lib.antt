@@ -20,3 +20,6 @@ pub mod ExpressionBudget
 pub mod StatementBudget
 pub mod BodyBudget
 mod SpinExample
+pub mod ValueLemmas
+pub mod ValueExpressions
+pub mod ValueBodies

@@ -1,2 +1,3 @@
 pub mod Nodes
 pub mod Budget
+pub mod ValueLimits

@@ -5,6 +5,7 @@ ghost use Rattle.fn_tree.specs.Limits.{RunsWithin};
 ghost use Rattle.fn_tree.specs.LongerAnswers.{RunsOn};
 ghost use Rattle.fn_tree.specs.NeverStuck.{ExpressionsNeverStuck, FlowsNeverStuck, TxnsNeverStuck};
 ghost use Rattle.fn_meaning.specs.Budget.{ExpressionsEnd, TransactionsEnd, FlowsEnd};
+ghost use Rattle.fn_meaning.specs.ValueLimits.{ExpressionsStayWithin};
 
 /// A workflow's run that is over is the same on every longer list of answers, its cost included.
 pub fn run_over_stays()
@@ -37,4 +38,10 @@ pub fn body_ends_within_units()
     ensures expressions { ExpressionsEnd }
     ensures transactions { TransactionsEnd }
     ensures flows { FlowsEnd }
+{}
+
+/// What an expression gives is a value within the limits, and the word of its failure a text, where
+/// the program's literals and the values that are bound are within them.
+pub fn values_stay_within()
+    ensures { ExpressionsStayWithin }
 {}

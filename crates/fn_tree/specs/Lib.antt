@@ -19,6 +19,7 @@ pub mod Names
 pub mod Soundness
 pub mod LongerAnswers
 pub mod Cost
+pub mod Literals
 pub mod NeverStuck
 pub mod Limits
 pub mod Frames

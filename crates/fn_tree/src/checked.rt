@@ -1,14 +1,17 @@
 //! Programs that the checker finds nothing wrong in.
 
 ghost use Rattle.std.specs.Prelude.{◌≡◌, IfOk};
+ghost use Rattle.fn_tree.specs.Literals.{HoldsValues};
 ghost use Rattle.fn_tree.specs.Soundness.{IsSound};
 
+use crate::literals::walk;
 use crate::program::{Program, copy_items};
 use r3_value::Memory;
 use std::marker::Model;
 
 /// A sound program, which contracts see as its items: one that the checker finds nothing wrong in,
-/// whose names have 1 to 64 bytes and whose items have at most 16 parameters.
+/// whose names have 1 to 64 bytes and whose items have at most 16 parameters. A value can hold each
+/// of its literals.
 #[derive(Drop)]
 pub struct Checked {
     program: Program,
@@ -25,11 +28,12 @@ impl Model for Checked {
 
     ghost coded = { Prim.hlevel (codes, expr.the_row.coded, stmt.the_row.coded) };
 
+    ghost use Rattle.fn_tree.specs.Literals.{HoldsValues};
     ghost use Rattle.fn_tree.specs.Soundness.{IsSound};
 
     ghost view = { λ c. c.program.items.items };
 
-    ghost invariant = { λ c. IsSound c.program.items.items };
+    ghost invariant = { λ c. IsSound c.program.items.items × HoldsValues c.program.items.items };
 }
 
 impl Checked {
@@ -38,6 +42,7 @@ impl Checked {
         requires sound { IsSound program.items.items }
         ensures { result ≡ program.items.items }
     {
+        walk(program.items.as_slice());
         Checked { program }
     }
 
@@ -47,6 +52,13 @@ impl Checked {
         ensures sound { IsSound self.now }
     {
         &self.program
+    }
+
+    /// Its names and literals are such as a value can hold.
+    pub fn holds_values(&self)
+        ensures { HoldsValues self.now }
+    {
+        let _ = &self.program;
     }
 
     /// A copy, or want of memory.

@@ -10,6 +10,7 @@
 pub mod checked;
 pub mod expr;
 pub mod flow;
+mod literals;
 pub mod look;
 pub mod program;
 mod same;

@@ -68,3 +68,7 @@ pub mod Light
 pub mod QueueRule
 pub mod RowsNow
 pub mod PendingRule
+pub mod NamedItems
+pub mod TxnLimits
+pub mod FlowLimits
+pub mod ProgramLimits
