@@ -7,6 +7,8 @@
 
 mod as_of;
 mod past;
+mod workflows;
 
 pub use as_of::AsOf;
 pub use past::Past;
+pub use workflows::{answers, flow_row, recorded, recorded_below, recorded_count, user_row};
