@@ -67,4 +67,5 @@ pub mod KeepsValid
 pub mod Light
 pub mod QueueRule
 pub mod RowsNow
+pub mod RowsGathered
 pub mod PendingRule
