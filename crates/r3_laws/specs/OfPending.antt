@@ -22,7 +22,8 @@ use Rattle.r3_laws.specs.OfQueues.{rows_of}
 
 -- what the index tells of the rows is the machine's list
 abbrev pub PendingTells : Type 0
-PendingTells = (h : List Entry) (k : ℕ) → running_ids (rows_of (flows_at h k)) ≡ map (λ (f : Flow). f.id) (pending_at h k)
+PendingTells = (h : List Entry) (k : ℕ)
+    → running_ids (rows_of (flows_at h k)) ≡ map (λ (f : Flow). f.id) (pending_at h k)
 
 -- ---- the rows of all workflows
 

@@ -1,5 +1,4 @@
 use Rattle.std.proofs.Common.{Some, sym, ◌∙◌}
-use Rattle.std.specs.Prelude.{true, false}
 use Rattle.std.specs.Option.{option_copied}
 use Rattle.sys_pending.specs.Moves.{place_at, Enters, Leaves}
 use Rattle.sys_pending.proofs.Noted.{follows_keep, follows_move, not_both}
