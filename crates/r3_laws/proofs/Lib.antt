@@ -67,6 +67,7 @@ pub mod KeepsValid
 pub mod Light
 pub mod QueueRule
 pub mod RowsNow
+pub mod RowsGathered
 pub mod PendingRule
 pub mod NamedItems
 pub mod TxnLimits

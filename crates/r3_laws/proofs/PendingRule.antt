@@ -1,7 +1,6 @@
 -- The running workflows by the rows are those of the machine.
 use Rattle.std.proofs.Common.{◌≡◌, Bool, true, false, cond, List, [], ◌∷◌, map, refl, ap, ◌∙◌}
 use Rattle.std.specs.Prelude.{filter, if◌then◌else◌, nat_le}
-use Rattle.r3_rows.specs.declared.rows.FlowRow.{FlowRow}
 use Rattle.sys_queue.specs.Rows.{Rows, is_pending}
 use Rattle.sys_pending.specs.Running as rule
 use Rattle.r3_model.specs.Language.{Text}

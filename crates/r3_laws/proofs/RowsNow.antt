@@ -1,8 +1,8 @@
 -- The rows of all workflows after an entry.
-use Rattle.std.proofs.Common.{◌≡◌, ℕ, ◌+◌, Bool, true, false, cond, ◌&&◌, List, [], ◌∷◌, ◌++◌, map, take, length, Option, Some, None, refl, sym, subst, ap, ◌∙◌, arith}
+use Rattle.std.proofs.Common.{◌≡◌, ℕ, ◌+◌, Bool, true, false, cond, List, [], ◌∷◌, ◌++◌, map, take, length, Option, Some, None, refl, sym, ap, ◌∙◌, arith}
 use Rattle.std.specs.Prelude.{fold, filter_map, option_and_then}
 use Rattle.std.specs.List.{AllByRecursion, cons_option, enumerate_from}
-use Rattle.std.specs.Ordering.{is_eq, is_lt, ordering_then, ordering_reverse, eq_by_cmp}
+use Rattle.std.specs.Ordering.{is_eq, is_lt, ordering_then, eq_by_cmp}
 use Rattle.std.specs.declared.cmp.Ordering.{Ordering}
 use Rattle.std.specs.declared.cmp.Ordering.TheVariants.{Less, Equal, Greater}
 use Rattle.std.specs.FinMap.{nat_cmp-IsAntisymmetric, slice_cmp-IsAntisymmetric, IsAntisymmetric}
@@ -20,19 +20,19 @@ use Rattle.r3_rows.specs.declared.rows.StepKind.TheVariants as asked
 use Rattle.r3_rows.specs.Keys.{key_cmp, bytes_cmp}
 use Rattle.r3_rows.specs.KeyOrder.{key_cmp-total}
 use Rattle.r3_entry.specs.declared.entry.Entry.{Entry}
-use Rattle.r3_entry.specs.Formed.{Follows, IsOfKind}
+use Rattle.r3_entry.specs.Formed.{IsOfKind}
 use Rattle.r3_entry.specs.History.{Write, Map, map_at}
 use Rattle.r3_entry.proofs.Append.{map_at-push}
 use Rattle.fn_tree.specs.Writes.{Write as Put}
 use Rattle.sys_queue.specs.Rows.{Rows}
 use Rattle.r3_model.specs.Language.{Text}
-use Rattle.r3_model.specs.Rows.{Flow, flow_of, flow_seen, flows_at, steps_at}
+use Rattle.r3_model.specs.Rows.{Flow, flow_of, flow_seen, steps_at}
 use Rattle.r3_model.specs.Acts.{Writes, row_write, put_write, step_write, step_row, started, in_order}
 use Rattle.r3_laws.specs.OfQueues.{rows_of}
-use Rattle.r3_laws.specs.OfPending.{RowsRise, RowsTell, RowsFollow, RowsGather, ActsWrite, flow_written, put_all}
+use Rattle.r3_laws.specs.OfPending.{RowsRise, RowsTell, RowsFollow, ActsWrite, flow_written, put_all}
 use Rattle.r3_laws.proofs.After.{tied}
 use Rattle.r3_laws.proofs.Flows.{map_at-sorted}
-use Rattle.r3_laws.proofs.InOrder.{parts, less, true_from, from_true, puts-sorted}
+use Rattle.r3_laws.proofs.InOrder.{parts, less, true_from, from_true}
 use Rattle.r3_laws.proofs.Loads.{AreRows, in_order-rows}
 use Rattle.r3_laws.proofs.QueueRule.{below-flows, sorted-flows}
 
@@ -40,7 +40,7 @@ exact : IsAntisymmetric bytes_cmp
 exact = slice_cmp-IsAntisymmetric nat_cmp-IsAntisymmetric
 
 -- the rows in a map of last writes
-abbrev rows_in : Map → Rows
+abbrev pub rows_in : Map → Rows
 rows_in ps = rows_of (filter_map flow_seen ps)
 
 pub rows-rise : RowsRise
@@ -86,10 +86,10 @@ find-row id ((keys.Flow other, w) ∷ ps) sorted =
     led-found id other (row_in (Some w)) (filter_map flow_seen ps) (eq_by_cmp bytes_cmp id other) refl (below-flows other ps p.0)
     ∙ by_tie (eq_by_cmp bytes_cmp id other) (find-row id ps p.1)
     ∙ ap (λ (b : Bool). row_in (cond b (Some w) (find key_cmp (keys.Flow id) ps))) (sym (flow-eq id other)) where
-  by_tie : (t : Bool) → find bytes_cmp id (rows_in ps) ≡ row_in (find key_cmp (keys.Flow id) ps)
-      → cond t (row_in (Some w)) (find bytes_cmp id (rows_in ps)) ≡ row_in (cond t (Some w) (find key_cmp (keys.Flow id) ps))
-  by_tie true later = refl
-  by_tie false later = later
+      by_tie : (t : Bool) → find bytes_cmp id (rows_in ps) ≡ row_in (find key_cmp (keys.Flow id) ps)
+          → cond t (row_in (Some w)) (find bytes_cmp id (rows_in ps)) ≡ row_in (cond t (Some w) (find key_cmp (keys.Flow id) ps))
+      by_tie true later = refl
+      by_tie false later = later
 
 pub rows-tell : RowsTell
 rows-tell h k id = find-row id (map_at h k) (map_at-sorted h k)
@@ -122,9 +122,9 @@ put-row id j row m sorted =
     (λ other. find-after other (keys.Flow id) w m sorted ∙ ap (λ (b : Bool). row_in (cond b (Some w) (find key_cmp (keys.Flow other) m))) (flow-eq other id)
     ∙ by_tie (eq_by_cmp bytes_cmp other id) (find key_cmp (keys.Flow other) m) (find bytes_cmp other (rows_in m)) (find-row other m sorted)
     ∙ sym (find-put bytes_cmp nat_list_cmp_total other id row (rows_in m))) where
-  by_tie : (t : Bool) (o : Option Write) (r : Option FlowRow) → r ≡ row_in o → row_in (cond t (Some (j, Some (cells.Flow row))) o) ≡ cond t (Some row) r
-  by_tie true o r is = refl
-  by_tie false o r is = sym is
+      by_tie : (t : Bool) (o : Option Write) (r : Option FlowRow) → r ≡ row_in o → row_in (cond t (Some (j, Some (cells.Flow row))) o) ≡ cond t (Some row) r
+      by_tie true o r is = refl
+      by_tie false o r is = sym is
 
 -- ---- an entry's writes
 
@@ -176,34 +176,3 @@ acts-write h = record {
   txn = λ id q snap run. none-of-puts run.writes id q.n (step_row q.name asked.Txn run.outcome);
   fork = λ id source row below. ap (λ (fs : Rows). (id, started status.Pending row.function row.args None (length h + 1) None) ∷ fs) (none-of-steps id (enumerate_from 0 (take below (steps_at h (length h) source))));
 }
-
--- ---- rows in order, one after the other
-
-not_last : (before after : Rows) (id : Text) (row : FlowRow) → is_sorted bytes_cmp (before ++ (id, row) ∷ after) ≡ true → find bytes_cmp id before ≡ None
-not_last [] after id row sorted = refl
-not_last (e ∷ es) after id row sorted =
-    let p = parts (below_all bytes_cmp e.0 (es ++ (id, row) ∷ after)) (is_sorted bytes_cmp (es ++ (id, row) ∷ after)) sorted in
-    let above : bytes_cmp id e.0 ≡ Greater = nat_list_cmp_total.antisymm id e.0 ∙ ap ordering_reverse (below-last e.0 es p.0) in
-    ap (λ (o : Ordering). cond (is_eq o) (Some e.1) (find bytes_cmp id es)) above ∙ not_last es after id row p.1 where
-  below-last : (x : Text) (es : Rows) → below_all bytes_cmp x (es ++ (id, row) ∷ after) ≡ true → bytes_cmp x id ≡ Less
-  below-last x [] below = less (bytes_cmp x id) (parts (is_lt (bytes_cmp x id)) (below_all bytes_cmp x after) below).0
-  below-last x (f ∷ fs) below = below-last x fs (parts (is_lt (bytes_cmp x f.0)) (below_all bytes_cmp x (fs ++ (id, row) ∷ after)) below).1
-
--- without those after it
-without : (before after : Rows) (id : Text) (row : FlowRow) → is_sorted bytes_cmp (before ++ (id, row) ∷ after) ≡ true → is_sorted bytes_cmp (before ++ (id, row) ∷ []) ≡ true
-without [] after id row sorted = refl
-without (e ∷ es) after id row sorted =
-    let p = parts (below_all bytes_cmp e.0 (es ++ (id, row) ∷ after)) (is_sorted bytes_cmp (es ++ (id, row) ∷ after)) sorted in
-    both (below_all bytes_cmp e.0 (es ++ (id, row) ∷ [])) (is_sorted bytes_cmp (es ++ (id, row) ∷ [])) (below-cut es p.0) (without es after id row p.1) where
-  both : (a b : Bool) → a ≡ true → b ≡ true → (a && b) ≡ true
-  both true b p q = q
-  both false b p q = absurd cc
-
-  below-cut : (fs : Rows) → below_all bytes_cmp e.0 (fs ++ (id, row) ∷ after) ≡ true → below_all bytes_cmp e.0 (fs ++ (id, row) ∷ []) ≡ true
-  below-cut [] below = both (is_lt (bytes_cmp e.0 id)) true (parts (is_lt (bytes_cmp e.0 id)) (below_all bytes_cmp e.0 after) below).0 refl
-  below-cut (f ∷ fs) below =
-      let p = parts (is_lt (bytes_cmp e.0 f.0)) (below_all bytes_cmp e.0 (fs ++ (id, row) ∷ after)) below in
-      both (is_lt (bytes_cmp e.0 f.0)) (below_all bytes_cmp e.0 (fs ++ (id, row) ∷ [])) p.0 (below-cut fs p.1)
-
-pub rows-gather : RowsGather
-rows-gather before after id row sorted = (not_last before after id row sorted, puts-sorted bytes_cmp nat_list_cmp_total before ((id, row) ∷ []) (without before after id row sorted))

@@ -8,7 +8,8 @@ use Rattle.r3_rows.specs.declared.rows.Cell.{Cell}
 use Rattle.r3_rows.specs.declared.rows.FlowRow.{FlowRow}
 use Rattle.r3_rows.specs.declared.rows.Status.TheVariants as status
 use Rattle.r3_entry.specs.declared.entry.Entry.{Entry}
-use Rattle.r3_entry.specs.Formed.{Follows}
+use Rattle.r3_entry.specs.Formed.{Follows, IsFormed}
+use Rattle.r3_entry.specs.History.{Write, map_at}
 use Rattle.fn_tree.specs.declared.flow.Request.{Request}
 use Rattle.fn_tree.specs.declared.look.TxnRun.{TxnRun}
 use Rattle.sys_queue.specs.Lines.{bytes_cmp}
@@ -21,7 +22,8 @@ use Rattle.r3_laws.specs.OfQueues.{rows_of}
 
 -- what the index tells of the rows is the machine's list
 abbrev pub PendingTells : Type 0
-PendingTells = (h : List Entry) (k : ℕ) → running_ids (rows_of (flows_at h k)) ≡ map (λ (f : Flow). f.id) (pending_at h k)
+PendingTells = (h : List Entry) (k : ℕ)
+    → running_ids (rows_of (flows_at h k)) ≡ map (λ (f : Flow). f.id) (pending_at h k)
 
 -- ---- the rows of all workflows
 
@@ -59,6 +61,18 @@ pub record ActsWrite (h : List Entry) : Type 0 where
   pub txn : (id : Text) (q : Request) (snap : ℕ) (run : TxnRun) → flows_written (txn_entry h id q snap run) ≡ []
   pub fork : (id source : Text) (row : FlowRow) (below : ℕ) → flows_written (fork_entry h id source row below)
       ≡ (id, started status.Pending row.function row.args None (length h + 1) None) ∷ []
+
+-- the workflow of a key that is present
+abbrev pub id_in : Key × Write → Option Text
+id_in (keys.Flow id, (j, Some cell)) = Some id
+id_in (keys.Flow id, (j, None)) = None
+id_in (keys.User table key, w) = None
+id_in (keys.Step id n, w) = None
+
+-- each workflow whose key is present has a row
+abbrev pub RowsListed : Type 0
+RowsListed = (h : List Entry) (k : ℕ) → IsFormed h
+    → filter_map id_in (map_at h k) ≡ map (λ (f : Text × FlowRow). f.0) (rows_of (flows_at h k))
 
 -- rows in order are gathered one after the other: each is absent before it is put, and comes last
 abbrev pub RowsGather : Type 0

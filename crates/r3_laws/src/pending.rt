@@ -2,7 +2,7 @@
 
 ghost use Rattle.std.specs.Prelude.{List};
 ghost use Rattle.r3_entry.specs.declared.entry.Entry.{Entry};
-ghost use Rattle.r3_laws.specs.OfPending.{ActsWrite, PendingTells, RowsFollow, RowsGather, RowsRise, RowsTell};
+ghost use Rattle.r3_laws.specs.OfPending.{ActsWrite, PendingTells, RowsFollow, RowsGather, RowsListed, RowsRise, RowsTell};
 
 /// What the index of the running workflows tells of the rows is the machine's list.
 pub fn pending_tell()
@@ -19,5 +19,6 @@ pub fn rows_follow()
 /// The rows of all workflows stand in order, so an index is told of them one after the other.
 pub fn rows_gather()
     ensures rise { RowsRise }
+    ensures listed { RowsListed }
     ensures gather { RowsGather }
 {}

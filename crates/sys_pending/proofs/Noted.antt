@@ -1,16 +1,16 @@
 -- After a note the index stands as the rows say.
-use Rattle.std.proofs.Common.{◌≡◌, Bool, true, false, cond, List, map, Option, Some, None, refl, sym, ap, ◌∙◌}
-use Rattle.std.specs.Prelude.{IsTrue, T, if◌then◌else◌}
+use Rattle.std.proofs.Common.{◌≡◌, Bool, true, false, cond, List, Option, Some, None, refl, sym, ap, ◌∙◌}
+use Rattle.std.specs.Prelude.{T, if◌then◌else◌}
 use Rattle.std.specs.Ordering.{eq_by_cmp}
-use Rattle.std.specs.BTreeSet.{BTreeSet}
 use Rattle.std.specs.FinMap.Entries.{find, put, is_sorted, find-put, is_sorted-put}
 use Rattle.std.proofs.lemmas.Map.Lookups.{btree_set_from_contains}
 use Rattle.r3_rows.specs.declared.rows.FlowRow.{FlowRow}
-use Rattle.sys_queue.specs.Lines.{Text, Place, bytes_cmp, place_cmp}
+use Rattle.sys_queue.specs.Lines.{Text, Place, bytes_cmp}
 use Rattle.sys_queue.specs.Rows.{Rows, is_pending}
 use Rattle.sys_pending.specs.Index.{IsIndexOf, Follows}
 use Rattle.sys_pending.specs.Moves.{place_at, is_at, has_place, AreRising, Enters, Leaves}
-use Rattle.sys_pending.proofs.Order.{ids_total, places_total, places_exact, same_id, same_place, untied, apart, places, has_row, rising_rows}
+use Rattle.sys_pending.proofs.Places.{ids_total, places_total, places_exact, same_id, same_place, untied, apart, places, has_row}
+use Rattle.sys_pending.proofs.Rising.{rising_rows}
 
 -- lists in order with the same places are the same
 same_places : (ps qs : List Place) → AreRising ps → AreRising qs → ((q : Place) → has_place q ps ≡ has_place q qs) → ps ≡ qs

@@ -1,7 +1,5 @@
-use Rattle.std.proofs.Common.{◌≡◌, Option, Some, sym, ◌∙◌}
-use Rattle.std.specs.Prelude.{true, false}
+use Rattle.std.proofs.Common.{Some, sym, ◌∙◌}
 use Rattle.std.specs.Option.{option_copied}
-use Rattle.sys_queue.specs.Lines.{Place}
 use Rattle.sys_pending.specs.Moves.{place_at, Enters, Leaves}
 use Rattle.sys_pending.proofs.Noted.{follows_keep, follows_move, not_both}
 use Rattle.sys_pending.proofs.pending.Pending.note.Goals as goal
