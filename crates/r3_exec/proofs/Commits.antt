@@ -22,7 +22,7 @@ use Rattle.r3_exec.specs.Placed.{Keeping}
 use Rattle.r3_exec.specs.declared.exec.Exec.{Exec}
 use Rattle.r3_exec.proofs.Parts.{keeps_with}
 
-no_entries : (h : List Entry) (e : Entry) → 1000000 ≤ length h → full_of h e ≡ Some Entries
+pub no_entries : (h : List Entry) (e : Entry) → 1000000 ≤ length h → full_of h e ≡ Some Entries
 no_entries h e le =
     let t : nat_le 1000000 (length h) ≡ true = grind (arith, nat_tests) in
     ap (λ (b : Bool). if b then Some Entries else if nat_lt (2 ^ 30) (size h + 5 + length (entry e)) then Some Bytes else None) t

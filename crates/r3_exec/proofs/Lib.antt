@@ -1,10 +1,12 @@
 pub mod Begun
 pub mod Commits
 pub mod Entered
+pub mod Entering
 pub mod Few
 pub mod Leaving
 pub mod Maps
 pub mod Noting
 pub mod Parts
+pub mod Plain
 pub mod Rows
 pub mod Syncs

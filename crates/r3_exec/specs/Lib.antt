@@ -3,3 +3,4 @@ pub mod Runs
 pub mod Does
 pub mod Fit
 pub mod Placed
+pub mod Entered

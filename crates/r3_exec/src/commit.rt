@@ -69,8 +69,8 @@ fn copied(row: Option<&FlowRow>) -> Result<Option<FlowRow>, Memory>
     }
 }
 
-// An entry that isn't placed.
-fn let_go(entry: Entry) {
+/// An entry that isn't placed.
+pub fn let_go(entry: Entry) {
     let _entry = entry;
 }
 

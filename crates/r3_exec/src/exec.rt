@@ -1,8 +1,9 @@
 //! The executor.
 
-ghost use Rattle.std.specs.Prelude.{◌≡◌, ◌≢◌, ◌⊎◌, [], ℕ, List, length, map, IfOk, OnOk, IsErrOf};
+ghost use Rattle.std.specs.Prelude.{◌≡◌, ◌≢◌, ◌++◌, ◌∷◌, [], ℕ, List, length, map, IfOk, OnOk, IsErrOf};
 ghost use Rattle.std.specs.Option.{option_copied};
 ghost use Rattle.std.specs.Option.{ForSome};
+ghost use Rattle.std.specs.List.{filter_map};
 ghost use Rattle.r3_desk.specs.Causes.{Rose};
 ghost use Rattle.fn_tree.specs.Declarations.{any, is_table};
 ghost use Rattle.r3_entry.specs.declared.entry.Entry.{Entry};
@@ -11,6 +12,7 @@ ghost use Rattle.r3_model.specs.Machine.{State};
 ghost use Rattle.r3_model.specs.Run.{restarted, pending_ids};
 ghost use Rattle.r3_model.specs.Rows.{flow_at, row_at};
 ghost use Rattle.r3_model.specs.Language.{Queue};
+ghost use Rattle.r3_model.specs.Functions.{queue_of};
 ghost use Rattle.r3_exec.specs.Does.{IsRead, Leaves, SyncsWithin};
 
 use crate::ends::ExecFault;
@@ -18,6 +20,8 @@ use fn_tree::checked::Checked;
 use fn_tree::program::Item;
 use r3_desk::Desk;
 use r3_rows::FlowRow;
+use r3_laws::pending_tell;
+use r3_past::{flow_row, user_row};
 use r3_store::Store;
 use r3_value::{Memory, Txt, Val};
 use std::alloc::Global;
@@ -57,6 +61,19 @@ fn declares(items: &[Item], table: &str) -> bool
     false
 }
 
+// The queue that an item declares.
+fn add_queue(names: &mut Vec<Txt>, item: &Item) -> Result<(), Memory>
+    ensures { OnOk result (names.new.items ≡ names.old.items ++ map (λ (q : Queue). q.name) (filter_map queue_of (item.now ∷ []))) }
+{
+    match item {
+        Item::Queue { name, .. } => {
+            names.push(name.copy()?)?;
+            Ok(())
+        }
+        _ => Ok(()),
+    }
+}
+
 impl Exec {
     ghost use Rattle.r3_exec.specs.Runs.{Stands, Runs, language};
 
@@ -86,25 +103,31 @@ impl Exec {
 
     /// The row of a workflow, None where no workflow has the ID.
     pub fn flow(&self, alloc: Global, id: &str) -> Result<Option<&FlowRow>, Memory>
+        requires { (st : State) × Stands self.now st }
         ensures { (st : State) → Stands self.now st →
             IfOk result (λ r. option_copied r ≡ flow_at st.history (length st.history) id.now) }
     {
-        Err(Memory)
+        flow_row(alloc, self, id)
     }
 
     /// The value of a row, None where it is absent.
     pub fn row(&self, alloc: Global, table: &str, key: &str) -> Result<Option<&Val>, Memory>
+        requires { (st : State) × Stands self.now st }
         ensures { (st : State) → Stands self.now st →
             IfOk result (λ v. option_copied v ≡ row_at st.history (length st.history) table.now key.now) }
     {
-        Err(Memory)
+        user_row(alloc, self, table, key)
     }
 
     /// The declared queues, in their order.
     pub fn queues(&self, alloc: Global) -> Result<Vec<Txt>, Memory>
         ensures { IfOk result (λ names. names.items ≡ map (λ (q : Queue). q.name) (language self.now).queues) }
     {
-        Err(Memory)
+        let mut names = Vec::new(alloc);
+        'items: for item in &self.program.program().items {
+            add_queue(&mut names, item)?;
+        }
+        Ok(names)
     }
 
     /// The IDs of the running workflows, the first started first; of one entry the lowest ID first. It takes as
@@ -112,7 +135,8 @@ impl Exec {
     pub fn pending(&self, alloc: Global) -> Result<Vec<Txt>, Memory>
         ensures { (st : State) → Stands self.now st → IfOk result (λ ids. ids.items ≡ pending_ids st) }
     {
-        Err(Memory)
+        pending_tell();
+        self.pending.ids(alloc)
     }
 
     /// Makes all entries lasting. It takes no memory.

@@ -13,5 +13,5 @@ mod states;
 pub use events::{asks_unrecorded, queues_tell, tells_its_event};
 pub use histories::{commits_once, expects_all, makes_what_it_reaches, repeats_what_it_made};
 pub use pending::{pending_tell, rows_follow, rows_gather};
-pub use programs::programs_are_lawful;
+pub use programs::{programs_are_lawful, programs_are_limited};
 pub use states::{enters_light, enters_what_follows, keeps_open, keeps_valid};
