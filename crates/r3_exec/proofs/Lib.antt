@@ -1,5 +1,6 @@
 pub mod Begun
 pub mod Commits
+pub mod Doing
 pub mod Entered
 pub mod Entering
 pub mod Few
