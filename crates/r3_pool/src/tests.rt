@@ -12,6 +12,7 @@ fn the_slot_freed_last_is_used_again(rt: HostRuntime) -> Result<(), Fail> {
     let q = pool.put(b'B');
     assert!(rt; p != q);
     assert_eq!(rt; pool.take(p), b'A');
+    assert_eq!(rt; pool.next(), p);
     assert_eq!(rt; pool.put(b'C'), p);
     assert_eq!(rt; *pool.get(q), b'B');
     assert!(rt; matches!(pool.reserve(1), Err(PoolFault::Full)));

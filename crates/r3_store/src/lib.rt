@@ -14,6 +14,8 @@ mod looks;
 mod open;
 mod rules;
 mod store;
+#[cfg(test)]
+mod tests;
 
 pub use fault::{CommitFault, OpenFault};
 pub use laws::{
