@@ -1,4 +1,5 @@
 pub mod Begun
+pub mod Commanding
 pub mod Commits
 pub mod Doing
 pub mod Entered
