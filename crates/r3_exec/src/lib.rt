@@ -16,6 +16,7 @@ mod reads;
 mod snapshots;
 mod stored;
 mod turn;
+mod turning;
 
 pub use ends::{CommandEnd, DequeueEnd, ExecFault, TurnEnd};
 pub use exec::Exec;
