@@ -12,3 +12,4 @@ pub mod Parts
 pub mod Plain
 pub mod Rows
 pub mod Syncs
+pub mod Turnings

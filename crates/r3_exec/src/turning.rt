@@ -21,7 +21,7 @@ use std::alloc::Global;
 use std::sync::ledger::Ledger;
 
 /// What a turn comes to.
-#[derive(Debug, Drop)]
+#[derive(Drop)]
 pub enum Turning {
     /// The workflow doesn't run.
     NotPending(Status),
@@ -38,6 +38,33 @@ pub enum Turning {
 }
 
 impl Exec {
+    // It asks for a child.
+    fn bearing(&self, alloc: Global, id: &Txt, request: &Request) -> Result<Turning, Memory>
+        requires stands { (h : List E) × StoreStands self.now.store h }
+        requires kind { request.now.kind ≡ AskKind.Child }
+        ensures { IfOk result (λ t. (h : List E) → StoreStands self.now.store h →
+            Comes (language self.now) h id.now (λ snap answer. asked (language self.now) h id.now snap answer request.now.kind request.now)
+                (asks_outside (language self.now) h id.now (FlowEnd.Asks request.now)) t) }
+    {
+        let entry = child_draft(alloc, self, id, request)?;
+        Ok(Turning::Enters(entry))
+    }
+
+    // It awaits another.
+    fn awaiting(&self, alloc: Global, id: &Txt, request: &Request) -> Result<Turning, Memory>
+        requires stands { (h : List E) × StoreStands self.now.store h }
+        requires kind { request.now.kind ≡ AskKind.Await }
+        ensures { IfOk result (λ t. (h : List E) → StoreStands self.now.store h →
+            Comes (language self.now) h id.now (λ snap answer. asked (language self.now) h id.now snap answer request.now.kind request.now)
+                (asks_outside (language self.now) h id.now (FlowEnd.Asks request.now)) t) }
+    {
+        match await_draft(alloc, self, id, request) {
+            Ok(AwaitDraft::Waiting { id }) => Ok(Turning::Waiting { id }),
+            Ok(AwaitDraft::Enters(entry)) => Ok(Turning::Enters(entry)),
+            Err(fault) => Err(fault),
+        }
+    }
+
     // What it comes to that a workflow's function asked so.
     fn asking(&self, alloc: Global, id: &Txt, request: Request) -> Result<Turning, Memory>
         requires stands { (h : List E) × StoreStands self.now.store h }
@@ -49,11 +76,8 @@ impl Exec {
         match request.kind {
             AskKind::Txn => Ok(Turning::Commits(request)),
             AskKind::Outside => Ok(Turning::Calls(request)),
-            AskKind::Child => Ok(Turning::Enters(child_draft(alloc, self, id, &request)?)),
-            AskKind::Await => match await_draft(alloc, self, id, &request)? {
-                AwaitDraft::Waiting { id } => Ok(Turning::Waiting { id }),
-                AwaitDraft::Enters(entry) => Ok(Turning::Enters(entry)),
-            },
+            AskKind::Child => self.bearing(alloc, id, &request),
+            AskKind::Await => self.awaiting(alloc, id, &request),
         }
     }
 
