@@ -2,14 +2,14 @@
 -- other one can do.
 -- No public contract cites this.
 use Rattle.std.specs.Prelude.{◌≡◌, ℕ, suc, ◌+◌, ◌↔◌, List, [], ◌∷◌, Option, Some, None, Bool, true, false, nat_le, if◌then◌else◌}
-use Rattle.fn_syntax.specs.declared.lexeme.Lexeme.{Lexeme}
-use Rattle.fn_syntax.specs.declared.lexeme.Lexeme.TheVariants as lex
-use Rattle.fn_syntax.specs.declared.symbol.Part.{Part as Nonterminal}
-use Rattle.fn_syntax.specs.declared.symbol.Part.TheVariants as part
-use Rattle.fn_syntax.specs.declared.symbol.Symbol.{Symbol}
-use Rattle.fn_syntax.specs.declared.symbol.Symbol.TheVariants.{Fixed, Part, Make, Begin, End}
-use Rattle.fn_syntax.specs.Letters.{Letter, fits}
-use Rattle.fn_syntax.specs.Derivation.{State, Derives}
+use Rattle.fn_grammar.specs.declared.lexeme.Lexeme.{Lexeme}
+use Rattle.fn_grammar.specs.declared.lexeme.Lexeme.TheVariants as lex
+use Rattle.fn_grammar.specs.declared.symbol.Part.{Part as Nonterminal}
+use Rattle.fn_grammar.specs.declared.symbol.Part.TheVariants as part
+use Rattle.fn_grammar.specs.declared.symbol.Symbol.{Symbol}
+use Rattle.fn_grammar.specs.declared.symbol.Symbol.TheVariants.{Fixed, Part, Make, Begin, End}
+use Rattle.fn_grammar.specs.Letters.{Letter, fits}
+use Rattle.fn_grammar.specs.Derivation.{State, Derives}
 
 -- a rule may be taken before the next letter; one that no token leads always may
 abbrev pub starts : List Symbol → Option Letter → Bool

@@ -11,18 +11,18 @@ use Rattle.fn_tree.specs.declared.stmt.Stmt.{Stmt}
 use Rattle.fn_tree.specs.declared.stmt.Stmt as stmt
 use Rattle.fn_tree.specs.declared.program.Item.{Item}
 use Rattle.fn_tree.specs.declared.program.Item.TheVariants as item
-use Rattle.fn_syntax.specs.declared.symbol.Action.{Action}
-use Rattle.fn_syntax.specs.declared.symbol.Action.TheVariants as act
-use Rattle.fn_syntax.specs.declared.symbol.Binary.{Binary}
-use Rattle.fn_syntax.specs.declared.symbol.Binary.TheVariants as two
-use Rattle.fn_syntax.specs.declared.symbol.Unary.{Unary}
-use Rattle.fn_syntax.specs.declared.symbol.Unary.TheVariants as one
-use Rattle.fn_syntax.specs.declared.symbol.Declaration.{Declaration}
-use Rattle.fn_syntax.specs.declared.symbol.Declaration.TheVariants as item_kind
-use Rattle.fn_syntax.specs.declared.symbol.Statement.{Statement}
-use Rattle.fn_syntax.specs.declared.symbol.Statement.TheVariants as stmt_kind
-use Rattle.fn_syntax.specs.declared.symbol.Binding.{Binding}
-use Rattle.fn_syntax.specs.declared.symbol.Binding.TheVariants as bind_kind
+use Rattle.fn_grammar.specs.declared.symbol.Action.{Action}
+use Rattle.fn_grammar.specs.declared.symbol.Action.TheVariants as act
+use Rattle.fn_grammar.specs.declared.symbol.Binary.{Binary}
+use Rattle.fn_grammar.specs.declared.symbol.Binary.TheVariants as two
+use Rattle.fn_grammar.specs.declared.symbol.Unary.{Unary}
+use Rattle.fn_grammar.specs.declared.symbol.Unary.TheVariants as one
+use Rattle.fn_grammar.specs.declared.symbol.Declaration.{Declaration}
+use Rattle.fn_grammar.specs.declared.symbol.Declaration.TheVariants as item_kind
+use Rattle.fn_grammar.specs.declared.symbol.Statement.{Statement}
+use Rattle.fn_grammar.specs.declared.symbol.Statement.TheVariants as stmt_kind
+use Rattle.fn_grammar.specs.declared.symbol.Binding.{Binding}
+use Rattle.fn_grammar.specs.declared.symbol.Binding.TheVariants as bind_kind
 
 -- names and lists of them, numbers of queues, expressions and lists of them, steps, right sides,
 -- blocks; and the items

@@ -3,8 +3,8 @@
 use Rattle.std.specs.Prelude.{◌≡◌, ℕ, List, [], ◌∷◌, ◌++◌, length, drop}
 use Rattle.fn_lex.specs.declared.span.Token.{Token}
 use Rattle.fn_tree.specs.declared.program.Item.{Item}
-use Rattle.fn_syntax.specs.Letters.{Letter, letters}
-use Rattle.fn_syntax.specs.Derivation.{IsProgram}
+use Rattle.fn_grammar.specs.Letters.{Letter, letters}
+use Rattle.fn_grammar.specs.Derivation.{IsProgram}
 
 -- these letters keep the limits, and the grammar can go on behind them, with letters of which no
 -- limit is asked

@@ -2,9 +2,9 @@
 
 ghost use Rattle.std.specs.Prelude.{◌≡◌, ◌≤◌, IsTrue, true};
 ghost use Rattle.fn_lex.specs.Lexemes.{value_from, is_number_within};
-ghost use Rattle.fn_syntax.specs.Letters.{fits, is_fixed, is_bound};
-ghost use Rattle.fn_syntax.specs.Steps.{is_terminal};
-ghost use Rattle.fn_syntax.specs.Written.{seen_as, IsToken};
+ghost use Rattle.fn_grammar.specs.Letters.{fits, is_fixed, is_bound};
+ghost use Rattle.fn_grammar.specs.Steps.{is_terminal};
+ghost use Rattle.fn_grammar.specs.Written.{seen_as, IsToken};
 
 use crate::lexeme::text_of;
 use crate::symbol::Symbol;

@@ -1,7 +1,7 @@
 //! The reserved words and signs that the grammar names.
 
 ghost use Rattle.std.specs.Prelude.{◌≡◌};
-ghost use Rattle.fn_syntax.specs.Letters.{spelled};
+ghost use Rattle.fn_grammar.specs.Letters.{spelled};
 
 /// A reserved word or a sign that the grammar names.
 #[derive(Clone, Copy)]

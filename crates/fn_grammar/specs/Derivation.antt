@@ -3,16 +3,16 @@ use Rattle.std.specs.Prelude.{◌≡◌, ℕ, ◌+◌, ◌-◌, ◌⊎◌, List,
 use Rattle.fn_lex.specs.Lexemes.{value_from, denoted}
 use Rattle.fn_tree.specs.declared.expr.Expr as tree
 use Rattle.fn_tree.specs.declared.program.Item.{Item}
-use Rattle.fn_syntax.specs.declared.lexeme.Lexeme.{Lexeme}
-use Rattle.fn_syntax.specs.declared.lexeme.Lexeme.TheVariants as lex
-use Rattle.fn_syntax.specs.declared.symbol.Part.{Part as Nonterminal}
-use Rattle.fn_syntax.specs.declared.symbol.Part.TheVariants as part
-use Rattle.fn_syntax.specs.declared.symbol.Action.{Action}
-use Rattle.fn_syntax.specs.declared.symbol.Symbol.{Symbol}
-use Rattle.fn_syntax.specs.declared.symbol.Symbol.TheVariants.{Fixed, Name, Param, Bound, Number, Text, Part, Make, Begin, End}
-use Rattle.fn_syntax.specs.Letters.{Letter, fits}
-use Rattle.fn_syntax.specs.Grammar.{rules}
-use Rattle.fn_syntax.specs.Trees.{Trees, no_trees, list, made}
+use Rattle.fn_grammar.specs.declared.lexeme.Lexeme.{Lexeme}
+use Rattle.fn_grammar.specs.declared.lexeme.Lexeme.TheVariants as lex
+use Rattle.fn_grammar.specs.declared.symbol.Part.{Part as Nonterminal}
+use Rattle.fn_grammar.specs.declared.symbol.Part.TheVariants as part
+use Rattle.fn_grammar.specs.declared.symbol.Action.{Action}
+use Rattle.fn_grammar.specs.declared.symbol.Symbol.{Symbol}
+use Rattle.fn_grammar.specs.declared.symbol.Symbol.TheVariants.{Fixed, Name, Param, Bound, Number, Text, Part, Make, Begin, End}
+use Rattle.fn_grammar.specs.Letters.{Letter, fits}
+use Rattle.fn_grammar.specs.Grammar.{rules}
+use Rattle.fn_grammar.specs.Trees.{Trees, no_trees, list, made}
 
 -- What was read so far: the trees, how many brackets are open, and how many tokens the expression
 -- has that is open and stands in no other.

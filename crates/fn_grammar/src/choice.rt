@@ -1,8 +1,8 @@
 //! Which rule of a part is taken.
 
 ghost use Rattle.std.specs.Prelude.{◌≡◌, ◌∷◌, [], MatchOption, IfSome, Some, None, map};
-ghost use Rattle.fn_syntax.specs.Steps.{starts, chosen};
-ghost use Rattle.fn_syntax.specs.Written.{seen, IsToken};
+ghost use Rattle.fn_grammar.specs.Steps.{starts, chosen};
+ghost use Rattle.fn_grammar.specs.Written.{seen, IsToken};
 
 use crate::letter::{Letter, fits, is_terminal};
 use crate::symbol::Symbol;
@@ -23,7 +23,7 @@ fn leads(symbol: Symbol, next: Option<Letter>) -> bool
 }
 
 /// The rule may be taken before the next token.
-#[tactic(auto, using(crate::proofs::StepLemmas::starts_lead))]
+#[tactic(auto, using(crate::proofs::ChoiceLemmas::starts_lead))]
 fn starts(rule: &[Symbol], next: Option<Letter>) -> bool
     requires { IfSome next IsToken }
     ensures { result ≡ starts rule.now (seen next.entry) }

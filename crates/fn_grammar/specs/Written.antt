@@ -1,15 +1,11 @@
--- How the code holds letters and the state.
-use Rattle.std.specs.Prelude.{ℕ, Option, Some, None, Bool, not, ◌&&◌, ◌==◌, IsTrue}
+-- How the code holds letters.
+use Rattle.std.specs.Prelude.{Option, Some, None, IsTrue}
 use Rattle.fn_lex.specs.Lexemes.{is_lexeme, is_within}
-use Rattle.fn_syntax.specs.declared.letter.Letter.{Letter as Written}
-use Rattle.fn_syntax.specs.Letters.{Letter, letter}
+use Rattle.fn_grammar.specs.declared.letter.Letter.{Letter as Written}
+use Rattle.fn_grammar.specs.Letters.{Letter, letter}
 
 abbrev pub seen_as : Written → Letter
 seen_as l = letter l.kind l.word.now
-
--- the byte closes a text token
-abbrev pub closes_text : (escaped : Bool) → ℕ → Bool
-closes_text escaped b = not escaped && b == 34
 
 -- it is a token, within its limits
 pub record IsToken (l : Written) : Type 0 where

@@ -5,10 +5,10 @@ use Rattle.fn_lex.specs.declared.span.TokenKind.{TokenKind}
 use Rattle.fn_lex.specs.declared.span.TokenKind.TheVariants as kind
 use Rattle.fn_lex.specs.declared.span.Token.{Token}
 use Rattle.fn_lex.specs.Lexemes.{value_from}
-use Rattle.fn_syntax.specs.declared.lexeme.Lexeme.{Lexeme}
-use Rattle.fn_syntax.specs.declared.lexeme.Lexeme.TheVariants as lex
-use Rattle.fn_syntax.specs.declared.symbol.Symbol.{Symbol}
-use Rattle.fn_syntax.specs.declared.symbol.Symbol.TheVariants.{Fixed, Name, Param, Bound, Number, Text}
+use Rattle.fn_grammar.specs.declared.lexeme.Lexeme.{Lexeme}
+use Rattle.fn_grammar.specs.declared.lexeme.Lexeme.TheVariants as lex
+use Rattle.fn_grammar.specs.declared.symbol.Symbol.{Symbol}
+use Rattle.fn_grammar.specs.declared.symbol.Symbol.TheVariants.{Fixed, Name, Param, Bound, Number, Text}
 
 -- A token with its bytes. No limit is asked of a free one; a text has none of these.
 pub record Letter : Type 0 where

@@ -1,6 +1,6 @@
 use Rattle.std.proofs.Common.{◌≡◌, ◌≤◌, drop}
 use Rattle.fn_lex.specs.Lexemes.{value_from}
-use Rattle.fn_syntax.proofs.letter.value.Given as goal
+use Rattle.fn_grammar.proofs.letter.value.Given as goal
 
 abbrev pub invariant-loop-d : goal.invariant-loop-d
 invariant-loop-d l = record {

@@ -1,17 +1,17 @@
 -- The grammar, as a scheme that says of each part by which rules it is written and how its tree is made.
 -- A rule is a list of symbols; `Make` takes no token and makes a tree of those that stand on the stack.
 use Rattle.std.specs.Prelude.{List, [], ◌∷◌}
-use Rattle.fn_syntax.specs.declared.lexeme.Lexeme.TheVariants as lex
-use Rattle.fn_syntax.specs.declared.symbol.Part.{Part as Nonterminal}
-use Rattle.fn_syntax.specs.declared.symbol.Part.TheVariants as part
-use Rattle.fn_syntax.specs.declared.symbol.Action.TheVariants as act
-use Rattle.fn_syntax.specs.declared.symbol.Binary.TheVariants as two
-use Rattle.fn_syntax.specs.declared.symbol.Unary.TheVariants as one
-use Rattle.fn_syntax.specs.declared.symbol.Declaration.TheVariants as item_kind
-use Rattle.fn_syntax.specs.declared.symbol.Statement.TheVariants as stmt_kind
-use Rattle.fn_syntax.specs.declared.symbol.Binding.TheVariants as bind_kind
-use Rattle.fn_syntax.specs.declared.symbol.Symbol.{Symbol}
-use Rattle.fn_syntax.specs.declared.symbol.Symbol.TheVariants.{Fixed, Name, Param, Bound, Number, Text, Part, Make, Begin, End}
+use Rattle.fn_grammar.specs.declared.lexeme.Lexeme.TheVariants as lex
+use Rattle.fn_grammar.specs.declared.symbol.Part.{Part as Nonterminal}
+use Rattle.fn_grammar.specs.declared.symbol.Part.TheVariants as part
+use Rattle.fn_grammar.specs.declared.symbol.Action.TheVariants as act
+use Rattle.fn_grammar.specs.declared.symbol.Binary.TheVariants as two
+use Rattle.fn_grammar.specs.declared.symbol.Unary.TheVariants as one
+use Rattle.fn_grammar.specs.declared.symbol.Declaration.TheVariants as item_kind
+use Rattle.fn_grammar.specs.declared.symbol.Statement.TheVariants as stmt_kind
+use Rattle.fn_grammar.specs.declared.symbol.Binding.TheVariants as bind_kind
+use Rattle.fn_grammar.specs.declared.symbol.Symbol.{Symbol}
+use Rattle.fn_grammar.specs.declared.symbol.Symbol.TheVariants.{Fixed, Name, Param, Bound, Number, Text, Part, Make, Begin, End}
 
 -- the rules of a part
 abbrev pub rules : Nonterminal → List (List Symbol)

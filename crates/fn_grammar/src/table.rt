@@ -1,7 +1,7 @@
 //! The rules of the grammar, as a table.
 
 ghost use Rattle.std.specs.Prelude.{◌≡◌, map};
-ghost use Rattle.fn_syntax.specs.Grammar.{rules};
+ghost use Rattle.fn_grammar.specs.Grammar.{rules};
 
 use crate::expression_rules::{
     ANDS, CMP, COMPARED, CONJ, EXPR, FACTORS, INDEXES, LIST_ITEMS, MORE_ITEMS, MORE_PAREN, NAMED,
