@@ -1,6 +1,6 @@
 //! Items.
 
-ghost use Rattle.std.specs.Prelude.{◌≡◌, ◌∷◌, ◌++◌, [], OnOk, pos, map, true};
+ghost use Rattle.std.specs.Prelude.{◌≡◌, ◌∷◌, ◌++◌, [], IfOk, OnOk, pos, map, true};
 ghost use Rattle.fn_tree.specs.declared.program.Item.TheVariants as tree;
 ghost use Rattle.fn_spell.specs.Pieces.{spaced, a_name, a_word, a_number};
 ghost use Rattle.fn_spell.specs.Spelling.{name_pieces, separated, params_pieces, item_pieces};
@@ -14,6 +14,7 @@ use fn_tree::expr::Expr;
 use fn_tree::program::Item;
 use fn_tree::stmt::Stmt;
 use r3_value::{Memory, Txt};
+use std::alloc::Global;
 
 /// Names between commas, and the parenthesis that closes them.
 fn names(out: &mut Vec<u8>, xs: &[Txt]) -> Result<(), Memory>
@@ -119,12 +120,13 @@ fn item(out: &mut Vec<u8>, item: &Item) -> Result<(), Memory>
     }
 }
 
-/// Items, one behind the other.
-pub fn items(out: &mut Vec<u8>, all: &[Item]) -> Result<(), Memory>
-    ensures { OnOk result (out.new.items ≡ out.old.items ++ spaced (program_pieces all.now)) }
+/// The spelling of items, one behind the other.
+pub fn items(alloc: Global, all: &[Item]) -> Result<Vec<u8>, Memory>
+    ensures { IfOk result (λ bytes. bytes.items ≡ spaced (program_pieces all.now)) }
 {
+    let mut out = Vec::new(alloc);
     for i in all {
-        item(out, i)?;
+        item(&mut out, i)?;
     }
-    Ok(())
+    Ok(out)
 }
