@@ -9,7 +9,7 @@ use Rattle.fn_grammar.specs.declared.symbol.Symbol.TheVariants.{Fixed, Name, Par
 use Rattle.fn_grammar.specs.Letters.{Letter, fits}
 use Rattle.fn_grammar.specs.Grammar.{rules}
 use Rattle.fn_grammar.specs.Derivation.{State, Derives, done, read, make, begin, end, by_rule, over, after_letter, after_make, after_begin, after_end}
-use Rattle.fn_grammar.specs.Steps.{starts, chosen, Tame, input, Went, Refuses, Same, is_terminal, cost, weight, effort}
+use Rattle.fn_grammar.specs.Steps.{chosen, Tame, input, Went, Refuses, Same, is_terminal, cost, weight, effort}
 use Rattle.fn_syntax.proofs.TableLemmas.{is_led, is_light, rules_light}
 use Rattle.fn_syntax.proofs.DerivationLemmas.{inv_make, inv_begin, inv_end, inv_part, inv_read, inv_none, inv_done, sure, chosen_in, some_eq, every_one}
 

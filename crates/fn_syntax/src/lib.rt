@@ -21,4 +21,5 @@ mod texts;
 mod trees;
 
 pub use fault::SyntaxError;
+pub use fn_spell::spell;
 pub use program::parse;
