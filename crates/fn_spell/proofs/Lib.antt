@@ -5,4 +5,6 @@ pub mod ReadLemmas
 pub mod AtomLemmas
 pub mod StatementLemmas
 pub mod ItemLemmas
+pub mod WordLemmas
+pub mod SpaceLemmas
 pub mod LexLemmas
