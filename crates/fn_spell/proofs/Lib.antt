@@ -8,3 +8,4 @@ pub mod ItemLemmas
 pub mod WordLemmas
 pub mod SpaceLemmas
 pub mod LexLemmas
+pub mod Worked
