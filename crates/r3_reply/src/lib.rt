@@ -1,0 +1,13 @@
+//! Replies to the lines of a script, as bytes.
+//!
+//! A contract sees a reply as the plain machine's, and says which bytes it has. Which reply a line is given
+//! is left to the crates above.
+#![tactic(auto)]
+
+mod reply;
+mod summary;
+mod text;
+
+pub use reply::Reply;
+pub use summary::summary_text;
+pub use text::reply_text;
