@@ -22,9 +22,13 @@ as_line (lines.Drain turns) = model.Drain turns
 as_line lines.Unread = model.Unread
 as_line lines.Unformed = model.Unformed
 
+-- a row within its limits
+abbrev pub IsRow : Text × Val → Type 0
+IsRow r = IsRowKey r.0 × IsVal r.1
+
 -- 1 to 1,024 rows, within their limits
 abbrev pub AreRows : List (Text × Val) → Type 0
-AreRows rows = (1 ≤ length rows) × (length rows ≤ 1024) × All (λ r. IsRowKey r.0 × IsVal r.1) rows
+AreRows rows = (1 ≤ length rows) × (length rows ≤ 1024) × All IsRow rows
 
 -- a command as a line has it: it fits, but that a load may name any table; none is a recovery
 abbrev pub IsOfLine : Command → Type 0
