@@ -22,10 +22,13 @@ called_for q asking.Child = None
 called_for q asking.Await = None
 
 call_by : (P : Language) (h : List Entry) (id : Text) (q : Request) (k : AskKind) → q.kind ≡ k → asks_outside P h id (Asks q) ≡ called_for q k
-call_by P h id q asking.Txn kind = rw kind refl
-call_by P h id q asking.Outside kind = rw kind refl
-call_by P h id q asking.Child kind = rw kind refl
-call_by P h id q asking.Await kind = rw kind refl
+call_by P h id q k kind = called_as q q.kind ∙ ap (λ (x : AskKind). called_for q x) kind
+  where
+    called_as : (r : Request) (x : AskKind) → elim x [ asking.Txn ↦ None | asking.Outside ↦ Some r | asking.Child ↦ None | asking.Await ↦ None ] ≡ called_for r x
+    called_as r asking.Txn = refl
+    called_as r asking.Outside = refl
+    called_as r asking.Child = refl
+    called_as r asking.Await = refl
 
 module _ (P : Language) (h : List Entry) (id : Text) (q : Request) where
   abbrev Asked : Type 0
