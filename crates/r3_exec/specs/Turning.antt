@@ -11,6 +11,12 @@ use Rattle.r3_model.specs.Event as reply
 use Rattle.r3_model.specs.Given.{Given, Enters, Answers}
 use Rattle.r3_model.specs.Language.{Language, Text}
 use Rattle.r3_model.specs.Turns.{outside_turn, txn_turn}
+use Rattle.r3_model.specs.Machine.{State}
+use Rattle.r3_exec.specs.Ends.{turn_reply}
+use Rattle.r3_exec.specs.Entered.{HasCome, reply_after}
+use Rattle.r3_exec.specs.declared.ends.TurnEnd.{TurnEnd}
+use Rattle.r3_exec.specs.declared.enter.Entered.{Entered}
+use Rattle.r3_exec.specs.declared.exec.Exec.{Exec}
 use Rattle.r3_exec.specs.declared.turning.Turning.{Turning}
 use Rattle.r3_exec.specs.declared.turning.Turning.TheVariants as turns
 
@@ -26,3 +32,10 @@ Comes P h id given call (turns.Waiting w) = ((snap : Option ℕ) (answer : Optio
 Comes P h id given call (turns.Enters e) = ((snap : Option ℕ) (answer : Option Outcome) → given snap answer ≡ Enters e (reply.Entry (length h + 1))) × (call ≡ None)
 Comes P h id given call (turns.Commits q) = ((snap : Option ℕ) (answer : Option Outcome) → given snap answer ≡ txn_turn P h id snap q) × (call ≡ None) × (q.kind ≡ asking.Txn) × IsAsked P q
 Comes P h id given call (turns.Calls q) = ((snap : Option ℕ) (answer : Option Outcome) → given snap answer ≡ outside_turn P h id q answer) × (call ≡ Some q)
+
+-- the answer of its call was recorded, or there was no room
+pub record HasRecorded {D : Type 0} (P : Language) (told_size : D → Option ℕ) (told_image : D → Option (List ℕ)) (may_leave : D → List ℕ → Type 0) (desk : D) (exec : Exec) (st : State) (settled : ℕ) (id : Text) (outcome : Outcome) (end : TurnEnd) : Type 0 where
+  pub entry : Entry
+  pub entered : Entered
+  pub come : HasCome P told_size told_image may_leave desk exec st settled (reply.Turn id) (Some outcome) entry (reply.Entry (length st.history + 1)) entered
+  pub reply_is : turn_reply end ≡ reply_after (reply.Entry (length st.history + 1)) entered

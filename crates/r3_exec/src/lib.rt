@@ -16,6 +16,7 @@ mod reads;
 mod snapshots;
 mod stored;
 mod turn;
+mod turn_parts;
 mod turning;
 
 pub use ends::{CommandEnd, DequeueEnd, ExecFault, TurnEnd};
