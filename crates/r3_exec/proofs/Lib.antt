@@ -13,3 +13,5 @@ pub mod Plain
 pub mod Rows
 pub mod Syncs
 pub mod Turnings
+pub mod TurnGives
+pub mod Asking

@@ -27,7 +27,7 @@ use fn_tree::flow::Request;
 use r3_acts::outside_entry;
 use r3_desk::{AskFault, Desk};
 use r3_entry::Entry;
-use r3_store::holds_beside_the_disk;
+use r3_store::{holds_beside_the_disk, reads_as_settled};
 use r3_value::{Memory, Outcome, Txt};
 use std::alloc::Global;
 
@@ -117,6 +117,7 @@ impl Exec {
         ensures say_faults { D.say_faults desk.new ≡ D.say_faults desk.old }
         ensures syncs { D.syncs desk.new ≡ D.syncs desk.old }
     {
+        reads_as_settled::<D>();
         is_outcome(&outcome);
         match outside_entry(alloc, self.store.len(), id, request, outcome) {
             Ok(entry) => match self.enter(alloc, desk, entry) {
@@ -124,6 +125,82 @@ impl Exec {
                 Err(fault) => Err(fault),
             },
             Err(_) => Err(ExecFault::Memory),
+        }
+    }
+
+    // The outside is asked, where all is settled.
+    fn ask_turn<D: Desk>(
+        &mut self,
+        alloc: Global,
+        desk: &mut D,
+        id: &Txt,
+        request: &Request,
+    ) -> Result<TurnEnd, ExecFault>
+        requires comes { (h : List E) → StoreStands self.old.store h →
+            Comes (language self.old) h id.now (turned (language self.old) h id.now) (call_of_turn (language self.old) h id.now) (Turning.Calls request.now) }
+        requires runs { (st : State) × Runs D.size D.image D.may_leave desk.old self.old st (length st.history) }
+        ensures does { (st : State) (k : ℕ) → Runs D.size D.image D.may_leave desk.old self.old st (length st.history) →
+            IfOk result (λ end. Does D.size D.image D.may_leave D.asked D.syncs desk.old desk.new self.new st k (Turn id.now) (turn_reply end)) }
+        ensures program { self.new.program ≡ self.old.program }
+        ensures crash { (st : State) → Runs D.size D.image D.may_leave desk.old self.old st (length st.history) →
+            Leaves D.moment D.reach D.said D.asked desk.old desk.new st.history (length st.history) }
+        ensures reads { (st : State) → Runs D.size D.image D.may_leave desk.old self.old st (length st.history) →
+            ForSome (D.image desk.new) (IsHistoryOf st.history) }
+        ensures early { (st : State) → Runs D.size D.image D.may_leave desk.old self.old st (length st.history) →
+            OnErr result (AskedFirst (language self.old) st (Turn id.now) (D.asked desk.old) (D.asked desk.new)) }
+        ensures disk { IsErrOf result ExecFault.Disk → Rose (D.disk_faults desk.old) (D.disk_faults desk.new) }
+        ensures no_fault { (IsErrOf result ExecFault.Disk → ⊥) → D.disk_faults desk.new ≡ D.disk_faults desk.old }
+        ensures again { result ≡ Ok TurnEnd.Again → Rose (D.ask_faults desk.old) (D.ask_faults desk.new) }
+        ensures answered { (result ≡ Ok TurnEnd.Again → ⊥) → D.ask_faults desk.new ≡ D.ask_faults desk.old }
+        ensures said { D.said desk.new ≡ D.said desk.old }
+        ensures say_faults { D.say_faults desk.new ≡ D.say_faults desk.old }
+        ensures syncs { D.syncs desk.new ≡ D.syncs desk.old }
+    {
+        reads_as_settled::<D>();
+        holds_beside_the_disk::<D>();
+        match desk.ask(id.as_str(), request.n, request.name.as_str(), &request.args) {
+            Ok(outcome) => match self.record_turn(alloc, desk, id, request, outcome) {
+                Ok(end) => Ok(end),
+                Err(fault) => Err(fault),
+            },
+            Err(AskFault::Fault) => Ok(TurnEnd::Again),
+            Err(AskFault::Memory) => Err(ExecFault::Memory),
+        }
+    }
+
+    /// All is settled, the outside is asked, and its answer recorded.
+    pub fn call_turn<D: Desk>(
+        &mut self,
+        alloc: Global,
+        desk: &mut D,
+        id: &Txt,
+        request: &Request,
+    ) -> Result<TurnEnd, ExecFault>
+        requires comes { (h : List E) → StoreStands self.old.store h →
+            Comes (language self.old) h id.now (turned (language self.old) h id.now) (call_of_turn (language self.old) h id.now) (Turning.Calls request.now) }
+        requires runs { (st : State) × (k : ℕ) × Runs D.size D.image D.may_leave desk.old self.old st k }
+        ensures does { (st : State) (k : ℕ) → Runs D.size D.image D.may_leave desk.old self.old st k →
+            IfOk result (λ end. Does D.size D.image D.may_leave D.asked D.syncs desk.old desk.new self.new st k (Turn id.now) (turn_reply end)) }
+        ensures program { self.new.program ≡ self.old.program }
+        ensures crash { (st : State) (k : ℕ) → Runs D.size D.image D.may_leave desk.old self.old st k →
+            Leaves D.moment D.reach D.said D.asked desk.old desk.new st.history k }
+        ensures reads { (st : State) (k : ℕ) → Runs D.size D.image D.may_leave desk.old self.old st k →
+            ForSome (D.image desk.new) (IsRead st.history k) }
+        ensures early { (st : State) (k : ℕ) → Runs D.size D.image D.may_leave desk.old self.old st k →
+            OnErr result (AskedFirst (language self.old) st (Turn id.now) (D.asked desk.old) (D.asked desk.new)) }
+        ensures disk { IsErrOf result ExecFault.Disk → Rose (D.disk_faults desk.old) (D.disk_faults desk.new) }
+        ensures no_fault { (IsErrOf result ExecFault.Disk → ⊥) → D.disk_faults desk.new ≡ D.disk_faults desk.old }
+        ensures again { result ≡ Ok TurnEnd.Again → Rose (D.ask_faults desk.old) (D.ask_faults desk.new) }
+        ensures answered { (result ≡ Ok TurnEnd.Again → ⊥) → D.ask_faults desk.new ≡ D.ask_faults desk.old }
+        ensures said { D.said desk.new ≡ D.said desk.old }
+        ensures say_faults { D.say_faults desk.new ≡ D.say_faults desk.old }
+    {
+        match self.settle(desk) {
+            Ok(()) => match self.ask_turn(alloc, desk, id, request) {
+                Ok(end) => Ok(end),
+                Err(fault) => Err(fault),
+            },
+            Err(fault) => Err(fault),
         }
     }
 }
