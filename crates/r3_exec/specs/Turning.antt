@@ -10,7 +10,7 @@ use Rattle.fn_tree.specs.declared.flow.Request.{Request}
 use Rattle.r3_model.specs.Event as reply
 use Rattle.r3_model.specs.Given.{Given, Enters, Answers}
 use Rattle.r3_model.specs.Language.{Language, Text}
-use Rattle.r3_model.specs.Turns.{outside_turn, txn_turn}
+use Rattle.r3_model.specs.Turns.{call_of_turn, outside_turn, turned, txn_turn}
 use Rattle.r3_model.specs.Machine.{State}
 use Rattle.r3_exec.specs.Ends.{turn_reply}
 use Rattle.r3_exec.specs.Entered.{HasCome, reply_after}
@@ -32,6 +32,10 @@ Comes P h id given call (turns.Waiting w) = ((snap : Option ℕ) (answer : Optio
 Comes P h id given call (turns.Enters e) = ((snap : Option ℕ) (answer : Option Outcome) → given snap answer ≡ Enters e (reply.Entry (length h + 1))) × (call ≡ None)
 Comes P h id given call (turns.Commits q) = ((snap : Option ℕ) (answer : Option Outcome) → given snap answer ≡ txn_turn P h id snap q) × (call ≡ None) × (q.kind ≡ asking.Txn) × IsAsked P q
 Comes P h id given call (turns.Calls q) = ((snap : Option ℕ) (answer : Option Outcome) → given snap answer ≡ outside_turn P h id q answer) × (call ≡ Some q)
+
+-- a turn of this workflow makes this call
+abbrev pub IsCalled : Language → State → Text → Request → Type 0
+IsCalled P st id q = Comes P st.history id (turned P st.history id) (call_of_turn P st.history id) (turns.Calls q)
 
 -- the answer of its call was recorded, or there was no room
 pub record HasRecorded {D : Type 0} (P : Language) (told_size : D → Option ℕ) (told_image : D → Option (List ℕ)) (may_leave : D → List ℕ → Type 0) (desk : D) (exec : Exec) (st : State) (settled : ℕ) (id : Text) (outcome : Outcome) (end : TurnEnd) : Type 0 where

@@ -17,7 +17,7 @@ ghost use Rattle.r3_exec.specs.Does.{Does, AskedFirst, IsRead, Leaves};
 ghost use Rattle.r3_exec.specs.Ends.{turn_reply};
 ghost use Rattle.r3_exec.specs.Entered.{HasNumber, reply_after};
 ghost use Rattle.r3_exec.specs.Runs.{Runs, language};
-ghost use Rattle.r3_exec.specs.Turning.{Comes, HasRecorded};
+ghost use Rattle.r3_exec.specs.Turning.{Comes, HasRecorded, IsCalled};
 
 use crate::ends::{ExecFault, TurnEnd};
 use crate::enter::Entered;
@@ -98,10 +98,8 @@ impl Exec {
         request: &Request,
         outcome: Outcome,
     ) -> Result<TurnEnd, ExecFault>
-        requires comes { (h : List E) → StoreStands self.old.store h →
-            Comes (language self.old) h id.now (turned (language self.old) h id.now) (call_of_turn (language self.old) h id.now) (Turning.Calls request.now) }
-        requires runs { (st : State) × (k : ℕ) × Runs D.size D.image D.may_leave desk.old self.old st k }
-        ensures recorded { (st : State) (k : ℕ) → Runs D.size D.image D.may_leave desk.old self.old st k →
+        requires called { (st : State) × (k : ℕ) × Runs D.size D.image D.may_leave desk.old self.old st k × IsCalled (language self.old) st id.now request.now }
+        ensures recorded { (st : State) (k : ℕ) → Runs D.size D.image D.may_leave desk.old self.old st k → IsCalled (language self.old) st id.now request.now →
             IfOk result (HasRecorded (language self.old) D.size D.image D.may_leave desk.new self.new st k id.now outcome) }
         ensures program { self.new.program ≡ self.old.program }
         ensures crash { (st : State) (k : ℕ) → Runs D.size D.image D.may_leave desk.old self.old st k →
@@ -136,17 +134,15 @@ impl Exec {
         id: &Txt,
         request: &Request,
     ) -> Result<TurnEnd, ExecFault>
-        requires comes { (h : List E) → StoreStands self.old.store h →
-            Comes (language self.old) h id.now (turned (language self.old) h id.now) (call_of_turn (language self.old) h id.now) (Turning.Calls request.now) }
-        requires runs { (st : State) × Runs D.size D.image D.may_leave desk.old self.old st (length st.history) }
-        ensures does { (st : State) (k : ℕ) → Runs D.size D.image D.may_leave desk.old self.old st (length st.history) →
+        requires called { (st : State) × Runs D.size D.image D.may_leave desk.old self.old st (length st.history) × IsCalled (language self.old) st id.now request.now }
+        ensures does { (st : State) (k : ℕ) → Runs D.size D.image D.may_leave desk.old self.old st (length st.history) → IsCalled (language self.old) st id.now request.now →
             IfOk result (λ end. Does D.size D.image D.may_leave D.asked D.syncs desk.old desk.new self.new st k (Turn id.now) (turn_reply end)) }
         ensures program { self.new.program ≡ self.old.program }
         ensures crash { (st : State) → Runs D.size D.image D.may_leave desk.old self.old st (length st.history) →
             Leaves D.moment D.reach D.said D.asked desk.old desk.new st.history (length st.history) }
         ensures reads { (st : State) → Runs D.size D.image D.may_leave desk.old self.old st (length st.history) →
             ForSome (D.image desk.new) (IsHistoryOf st.history) }
-        ensures early { (st : State) → Runs D.size D.image D.may_leave desk.old self.old st (length st.history) →
+        ensures early { (st : State) → Runs D.size D.image D.may_leave desk.old self.old st (length st.history) → IsCalled (language self.old) st id.now request.now →
             OnErr result (AskedFirst (language self.old) st (Turn id.now) (D.asked desk.old) (D.asked desk.new)) }
         ensures disk { IsErrOf result ExecFault.Disk → Rose (D.disk_faults desk.old) (D.disk_faults desk.new) }
         ensures no_fault { (IsErrOf result ExecFault.Disk → ⊥) → D.disk_faults desk.new ≡ D.disk_faults desk.old }

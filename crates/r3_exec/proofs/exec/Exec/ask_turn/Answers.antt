@@ -33,7 +33,7 @@ told_as old new id id' n name name' args r r' is same_id same_name same =
     is ∙ ap (λ (x : Text). asked_after old x n name' args r) same_id ∙ ap (λ (x : Text). asked_after old id n x args r) same_name ∙ ap (λ (x : Result Outcome AskFault). asked_after old id n name args x) same
 
 pub returns-in-Err-Fault-clause-does : goal.returns-in-Err-Fault-clause-does
-returns-in-Err-Fault-clause-does g c = λ st k runs.
+returns-in-Err-Fault-clause-does g c = λ st k runs called.
     let P = language c.args.self.now in
     let q = c.args.request.now in
     let id = c.args.id.now in
@@ -41,7 +41,7 @@ returns-in-Err-Fault-clause-does g c = λ st k runs.
     record {
       calls = call ∷ [];
       after = st;
-      steps = record { answer = None; is = fails P st id q (c.requires.comes st.history runs.stands.keeps.store) };
+      steps = record { answer = None; is = fails P st id q called };
       told = told_as (g.D.Desk.asked c.args.desk.now) (g.D.Desk.asked c.ask.new.self) id c.as_str.result.now q.n q.name c.as_str-2.result.now q.args c.ask.result (Err asks.Fault)
           c.ask.ensures.asked c.as_str.ensures.text c.as_str-2.ensures.text (c.in-Err-Fault.is ∙ ap (λ (f : AskFault). Err f) c.in-Err-Fault.field-0-is);
       runs = record { stands = runs.stands; holds = c.holds_beside_the_disk.ensures c.args.desk.now c.ask.new.self c.args.self.now.store st.history (length st.history) c.ask.ensures.same_size c.ask.ensures.image c.ask.ensures.pending runs.holds };
@@ -49,7 +49,7 @@ returns-in-Err-Fault-clause-does g c = λ st k runs.
     }
 
 pub returns-in-Ok-record_turn-clause-does : goal.returns-in-Ok-record_turn-clause-does
-returns-in-Ok-record_turn-clause-does g c = λ st k runs.
+returns-in-Ok-record_turn-clause-does g c = λ st k runs called.
     let P = language c.args.self.now in
     let q = c.args.request.now in
     let id = c.args.id.now in
@@ -57,7 +57,7 @@ returns-in-Ok-record_turn-clause-does g c = λ st k runs.
     let call : Call = record { id = id; n = q.n; name = q.name; args = q.args; answer = Some o } in
     let asked_runs : Runs g.D.Desk.size g.D.Desk.image g.D.Desk.may_leave c.ask.new.self c.args.self.now st (length st.history) =
         record { stands = runs.stands; holds = c.holds_beside_the_disk.ensures c.args.desk.now c.ask.new.self c.args.self.now.store st.history (length st.history) c.ask.ensures.same_size c.ask.ensures.image c.ask.ensures.pending runs.holds } in
-    let rec = c.in-Ok-record_turn.ensures.recorded st (length st.history) asked_runs in
+    let rec = c.in-Ok-record_turn.ensures.recorded st (length st.history) asked_runs called in
     let after = state_after st rec.entry rec.entered in
     record {
       calls = call ∷ [];
@@ -66,7 +66,7 @@ returns-in-Ok-record_turn-clause-does g c = λ st k runs.
         answer = Some o;
         is = rec.come.step
             ∙ ap (λ (r : reply.Reply). record { state = after; reply = r; calls = calls_of P st.history (Turn id) (Some o) }) (sym rec.reply_is)
-            ∙ ap (λ (cs : List Call). record { state = after; reply = turn_reply c.in-Ok-record_turn.end; calls = cs }) (one_call P st id (Some o) q (c.requires.comes st.history runs.stands.keeps.store).1);
+            ∙ ap (λ (cs : List Call). record { state = after; reply = turn_reply c.in-Ok-record_turn.end; calls = cs }) (one_call P st id (Some o) q called.1);
       });
       told = c.record_turn.ensures.asked ∙ told_as (g.D.Desk.asked c.args.desk.now) (g.D.Desk.asked c.ask.new.self) id c.as_str.result.now q.n q.name c.as_str-2.result.now q.args c.ask.result (Ok o)
           c.ask.ensures.asked c.as_str.ensures.text c.as_str-2.ensures.text c.in-Ok.is;
@@ -150,17 +150,17 @@ returns-in-Err-Memory-clause-crash g c = λ st runs.
 
 -- what was asked where it ended early
 pub returns-in-Err-clause-early : goal.returns-in-Err-clause-early
-returns-in-Err-clause-early g c = λ st runs.
+returns-in-Err-clause-early g c = λ st runs called.
     let q = c.args.request.now in
     let call : Call = record { id = c.args.id.now; n = q.n; name = q.name; args = q.args; answer = Some c.in-Ok.outcome } in
     let told : g.D.Desk.asked c.ask.new.self ≡ told_after (g.D.Desk.asked c.args.desk.now) (call ∷ []) =
         told_as (g.D.Desk.asked c.args.desk.now) (g.D.Desk.asked c.ask.new.self) c.args.id.now c.as_str.result.now q.n q.name c.as_str-2.result.now q.args c.ask.result (Ok c.in-Ok.outcome)
         c.ask.ensures.asked c.as_str.ensures.text c.as_str-2.ensures.text c.in-Ok.is in
-    let calls = one_call (language c.args.self.now) st c.args.id.now (Some c.in-Ok.outcome) q (c.requires.comes st.history runs.stands.keeps.store).1 in
+    let calls = one_call (language c.args.self.now) st c.args.id.now (Some c.in-Ok.outcome) q called.1 in
     (Some c.in-Ok.outcome, 1, c.record_turn.ensures.asked ∙ told ∙ ap (λ (cs : List Call). told_after (g.D.Desk.asked c.args.desk.now) (take 1 cs)) (sym calls))
 
 pub returns-in-Err-Memory-clause-early : goal.returns-in-Err-Memory-clause-early
-returns-in-Err-Memory-clause-early g c = λ st runs.
+returns-in-Err-Memory-clause-early g c = λ st runs called.
     let q = c.args.request.now in
     let told : g.D.Desk.asked c.ask.new.self ≡ g.D.Desk.asked c.args.desk.now =
         told_as (g.D.Desk.asked c.args.desk.now) (g.D.Desk.asked c.ask.new.self) c.args.id.now c.as_str.result.now q.n q.name c.as_str-2.result.now q.args c.ask.result (Err asks.Memory)
