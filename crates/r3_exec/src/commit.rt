@@ -220,7 +220,7 @@ impl Exec {
     }
 
     /// Adds an entry that is within the limits and writes the row of one workflow at most.
-    pub fn place<D: Desk>(
+    pub(crate) fn place<D: Desk>(
         &mut self,
         alloc: Global,
         desk: &mut D,

@@ -111,7 +111,7 @@ impl Exec {
 
     /// The entry of an event, on all that stands before it: it is appended where there is room, and the snapshot that
     /// it closes is closed.
-    pub fn enter<D: Desk>(
+    pub(crate) fn enter<D: Desk>(
         &mut self,
         alloc: Global,
         desk: &mut D,

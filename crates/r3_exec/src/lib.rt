@@ -15,7 +15,6 @@ mod exec;
 mod reads;
 mod snapshots;
 mod stored;
-mod turn;
 mod turn_parts;
 mod turning;
 

@@ -13,7 +13,7 @@ use std::alloc::Global;
 
 impl Exec {
     /// The open snapshot of a workflow.
-    pub fn snapshot(&self, id: &Txt) -> Option<u32>
+    pub(crate) fn snapshot(&self, id: &Txt) -> Option<u32>
         ensures { (h : List Entry) (begun : Begun) → Keeps self.now h begun → result ≡ find bytes_cmp id.now begun }
     {
         match self.begun.get(id) {
@@ -23,7 +23,7 @@ impl Exec {
     }
 
     /// Opens a snapshot of a workflow that has none: the length.
-    pub fn open(&mut self, alloc: Global, id: &Txt) -> Result<u32, Memory>
+    pub(crate) fn open(&mut self, alloc: Global, id: &Txt) -> Result<u32, Memory>
         requires { (h : List Entry) × (begun : Begun) × Keeps self.old h begun × (find bytes_cmp id.now begun ≡ None) }
         ensures program { self.new.program ≡ self.old.program }
         ensures gate { self.new.store.gate ≡ self.old.store.gate }
@@ -40,7 +40,7 @@ impl Exec {
     }
 
     /// Closes the open snapshot of a workflow, where it has one. It takes no memory.
-    pub fn close(&mut self, id: &Txt)
+    pub(crate) fn close(&mut self, id: &Txt)
         requires { (h : List Entry) × (begun : Begun) × Keeps self.old h begun }
         ensures program { self.new.program ≡ self.old.program }
         ensures gate { self.new.store.gate ≡ self.old.store.gate }

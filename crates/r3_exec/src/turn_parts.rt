@@ -58,7 +58,7 @@ fn is_outcome(outcome: &Outcome)
 
 impl Exec {
     /// The entry of a turn that makes no call.
-    pub fn enter_turn<D: Desk>(
+    pub(crate) fn enter_turn<D: Desk>(
         &mut self,
         alloc: Global,
         desk: &mut D,
@@ -165,7 +165,7 @@ impl Exec {
     }
 
     /// All is settled, the outside is asked, and its answer recorded.
-    pub fn call_turn<D: Desk>(
+    pub(crate) fn call_turn<D: Desk>(
         &mut self,
         alloc: Global,
         desk: &mut D,

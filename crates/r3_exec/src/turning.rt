@@ -82,7 +82,7 @@ impl Exec {
     }
 
     /// What a turn of a workflow that is there comes to.
-    pub fn turning<L: Ledger>(
+    pub(crate) fn turning<L: Ledger>(
         &self,
         alloc: Global,
         id: &Txt,
