@@ -1,12 +1,12 @@
 -- The chains of all keys, while they are cut one by one.
-use Rattle.std.proofs.Common.{◌≡◌, ◌≢◌, ℕ, ◌+◌, ◌<◌, ◌≤◌, zero, suc, Bool, true, false, cond, List, [], ◌∷◌, ◌++◌, length, map, Option, Some, None, is_some, refl, sym, ap, ◌∙◌, subst, arith, append_assoc}
-use Rattle.std.specs.Prelude.{nat_le, T}
+use Rattle.std.proofs.Common.{◌≡◌, ℕ, ◌+◌, ◌<◌, ◌≤◌, zero, suc, Bool, true, false, cond, List, [], ◌∷◌, ◌++◌, length, Option, Some, None, is_some, refl, sym, ap, ◌∙◌, subst, arith, append_assoc}
+use Rattle.std.specs.Prelude.{nat_le}
 use Rattle.std.specs.List.{AllByRecursion}
 use Rattle.std.specs.declared.cmp.Ordering.{Ordering}
 use Rattle.r3_pool.specs.Slots.{Slots, value_at, live_count}
 use Rattle.r3_chain.specs.Versions.{Version, Versions, kept_count, trimmed, trimmed_all, AreFalling}
 use Rattle.r3_chain.specs.VersionLaws.{falling_trimmed}
-use Rattle.r3_chain.specs.Links.{Cells, Placed, onto, trace, ends_with, Ends, versions_in, visits, chain_in, IsChain}
+use Rattle.r3_chain.specs.Links.{Cells, Placed, onto, trace, Ends, versions_in, visits, chain_in}
 use Rattle.r3_chain.specs.Heads.{with_versions, kept_by}
 use Rattle.r3_chain.specs.Sound.{one_if, total, uses, room_count, IsHead, IsSound}
 use Rattle.r3_chain.specs.Cuts.{cut_at, IsLine, Trims, IsForest, TrimsAll}

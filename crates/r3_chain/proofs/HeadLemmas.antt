@@ -1,7 +1,7 @@
 -- What a map of heads keeps, after a head is put into it.
-use Rattle.std.proofs.Common.{◌≡◌, ◌≢◌, ℕ, ◌+◌, ◌<◌, ◌≤◌, zero, suc, Bool, true, false, cond, ◌&&◌, ◌||◌, List, [], ◌∷◌, ◌++◌, length, map, fold, Option, Some, None, IsSome, is_some, refl, sym, ap, ◌∙◌, subst, arith}
-use Rattle.std.specs.Prelude.{T, nat_eq, sum_by}
-use Rattle.std.specs.List.{AllByRecursion, list_any}
+use Rattle.std.proofs.Common.{◌≡◌, ℕ, ◌+◌, Bool, true, false, cond, List, [], ◌∷◌, Option, Some, None, refl, sym, ap, ◌∙◌, subst, arith}
+use Rattle.std.specs.Prelude.{T}
+use Rattle.std.specs.List.{AllByRecursion}
 use Rattle.std.specs.Ordering.{is_lt, is_eq, eq_by_cmp}
 use Rattle.std.specs.Cmp.{IsTotalOrder}
 use Rattle.std.specs.BTreeSet.{insert_key}
@@ -9,7 +9,7 @@ use Rattle.std.specs.declared.cmp.Ordering.{Ordering}
 use Rattle.std.specs.declared.cmp.Ordering.TheVariants.{Less, Equal, Greater}
 use Rattle.std.specs.FinMap.{find, IsAntisymmetric}
 use Rattle.std.specs.FinMap.Entries.{put, by_order, is_sorted, below_all}
-use Rattle.r3_chain.specs.Versions.{Version, Versions, versions_of, installed, has_room, without}
+use Rattle.r3_chain.specs.Versions.{Version, Versions, versions_of, has_room, without}
 use Rattle.r3_chain.specs.VersionLaws.{both, first, second, less_of, not_found, tied_below, lower_below}
 use Rattle.r3_chain.specs.Heads.{newest_in, has_round, is_marked, room_in, with_versions, kept_by}
 use Rattle.r3_chain.specs.Sound.{total}

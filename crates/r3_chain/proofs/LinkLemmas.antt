@@ -1,10 +1,9 @@
 -- Laws of the walk along a chain.
-use Rattle.std.proofs.Common.{◌≡◌, ◌≢◌, ℕ, ◌+◌, ◌<◌, ◌≤◌, zero, suc, Bool, true, false, cond, List, [], ◌∷◌, length, map, Option, Some, None, IsSome, is_some, refl, sym, ap, ◌∙◌, subst, arith, inl, inr}
+use Rattle.std.proofs.Common.{◌≡◌, ◌≢◌, ℕ, ◌<◌, ◌≤◌, zero, suc, Bool, true, false, cond, List, [], ◌∷◌, length, Option, Some, None, IsSome, is_some, refl, sym, ap, ◌∙◌, subst, arith, inl, inr}
 use Rattle.std.proofs.lemmas.Bool.Decides.{eqb_tells}
-use Rattle.std.specs.Prelude.{nat_eq, ◌⊎◌}
+use Rattle.std.specs.Prelude.{nat_eq}
 use Rattle.r3_pool.specs.Slots.{Slots, value_at, live_count}
-use Rattle.r3_chain.specs.Versions.{Version}
-use Rattle.r3_chain.specs.Links.{Cells, Placed, onto, trace, ends_with, Ends, versions_in, chain_from, visits, chain_in, IsChain}
+use Rattle.r3_chain.specs.Links.{Cells, Placed, onto, trace, ends_with, Ends, versions_in, visits, chain_in, IsChain}
 use Rattle.r3_chain.specs.declared.node.Node.{Node}
 
 -- one where it is that slot

@@ -1,5 +1,5 @@
 -- A map whose entries are in order, after its own insert or a write through a reference, has the head put into it.
-use Rattle.std.proofs.Common.{◌≡◌, ◌≢◌, eq-eqb, inl, inr, ℕ, Bool, true, false, cond, List, [], ◌∷◌, ◌++◌, Option, Some, None, refl, sym, ap, ◌∙◌, subst, append_assoc}
+use Rattle.std.proofs.Common.{◌≡◌, ◌≢◌, eq-eqb, inl, inr, ℕ, true, false, cond, List, [], ◌∷◌, ◌++◌, Some, None, refl, sym, ap, ◌∙◌, subst, append_assoc}
 use Rattle.std.proofs.lemmas.Bool.Decides.{eqb_tells}
 use Rattle.std.specs.Prelude.{T, fold, nat_eq}
 use Rattle.r3_chain.specs.Heads.{roomed}
@@ -15,7 +15,7 @@ use Rattle.std.specs.declared.cmp.Ordering.{Ordering}
 use Rattle.std.specs.declared.cmp.Ordering.TheVariants.{Less, Equal, Greater}
 use Rattle.std.specs.FinMap.{find}
 use Rattle.std.specs.FinMap.Entries.{put, by_order, is_sorted, below_all}
-use Rattle.r3_chain.specs.VersionLaws.{both, first, second, less_of, not_found, tied_below, lower_below}
+use Rattle.r3_chain.specs.VersionLaws.{both, first, second, not_found, lower_below}
 
 module _ {K X : Type 0} (cmp : K → K → Ordering) where
   below_keys : (x : K) (es : List (K × X)) → AllByRecursion (λ y. cmp x y ≡ Less) (keys_of es) → T (below_all cmp x es)

@@ -1,5 +1,5 @@
 -- The fields of chains while keys are given room.
-use Rattle.std.proofs.Common.{◌≡◌, ◌≢◌, ℕ, ◌+◌, ◌<◌, ◌≤◌, zero, suc, Bool, true, false, cond, ◌||◌, List, [], ◌∷◌, length, fold, Option, Some, None, is_some, refl, sym, ap, ◌∙◌, subst, arith, eq-eqb, inl, inr}
+use Rattle.std.proofs.Common.{◌≡◌, ◌≢◌, ℕ, ◌+◌, ◌<◌, ◌≤◌, true, false, cond, ◌||◌, List, [], ◌∷◌, length, fold, Option, Some, None, is_some, refl, sym, ap, ◌∙◌, subst, arith, eq-eqb, inl, inr}
 use Rattle.std.proofs.lemmas.Bool.Decides.{eqb_tells}
 use Rattle.std.specs.Prelude.{T, nat_eq, Result, Ok, Err, OnOk}
 use Rattle.std.specs.Result.{is_err}
@@ -13,7 +13,7 @@ use Rattle.r3_pool.specs.Slots.{Slots, value_at, live_count, with_spare}
 use Rattle.r3_chain.specs.Versions.{Chains, Versions, kept_count, AreFalling}
 use Rattle.r3_chain.specs.Links.{trace, visits, chain_in, IsChain}
 use Rattle.r3_chain.specs.Heads.{newest_in, has_round, is_marked, roomed, all_roomed, room_in, kept_by}
-use Rattle.r3_chain.specs.Sound.{one_if, total, room_count, uses, IsHead, IsSound}
+use Rattle.r3_chain.specs.Sound.{one_if, total, room_count, IsHead, IsSound}
 use Rattle.r3_chain.specs.declared.node.Node.{Node}
 use Rattle.r3_chain.specs.declared.head.Head.{Head}
 use Rattle.r3_chain.proofs.LinkLemmas.{nothing}

@@ -1,23 +1,22 @@
 -- The fields of chains stay sound: after an install, and while keys are given room.
-use Rattle.std.proofs.Common.{◌≡◌, ◌≢◌, ℕ, ◌+◌, ◌<◌, ◌≤◌, zero, suc, Bool, true, false, cond, ◌||◌, List, [], ◌∷◌, length, fold, Option, Some, None, IsSome, is_some, refl, sym, ap, ◌∙◌, subst, arith, eq-eqb, inl, inr}
+use Rattle.std.proofs.Common.{◌≡◌, ℕ, ◌+◌, ◌<◌, ◌≤◌, suc, true, false, List, [], ◌∷◌, Option, Some, None, is_some, refl, sym, ap, ◌∙◌, subst, arith, inl, inr}
 use Rattle.std.proofs.lemmas.Bool.Decides.{eqb_tells}
-use Rattle.std.specs.Prelude.{T, nat_eq}
+use Rattle.std.specs.Prelude.{nat_eq}
 use Rattle.std.specs.List.{AllByRecursion}
 use Rattle.std.specs.Cmp.{IsTotalOrder}
-use Rattle.std.specs.BTreeSet.{insert_key}
 use Rattle.std.specs.declared.cmp.Ordering.{Ordering}
 use Rattle.std.specs.FinMap.{find, IsAntisymmetric}
-use Rattle.std.specs.FinMap.Entries.{put, is_sorted, is_sorted-put}
-use Rattle.r3_pool.specs.Slots.{Slots, Fills, value_at, live_count, with_spare}
-use Rattle.r3_chain.specs.Versions.{Version, Versions, versions_of, installed, kept_count, has_room, without, IsNext, AreFalling}
+use Rattle.std.specs.FinMap.Entries.{put, is_sorted-put}
+use Rattle.r3_pool.specs.Slots.{Slots, Fills, value_at, live_count}
+use Rattle.r3_chain.specs.Versions.{Version, versions_of, installed, kept_count, has_room, without, IsNext, AreFalling}
 use Rattle.r3_chain.specs.VersionLaws.{kept_count-installed}
 use Rattle.r3_chain.specs.Links.{trace, Ends, visits, versions_in, chain_in, IsChain}
-use Rattle.r3_chain.specs.Heads.{newest_in, has_round, is_marked, roomed, all_roomed, written, room_in, kept_by}
+use Rattle.r3_chain.specs.Heads.{newest_in, has_round, is_marked, written, room_in, kept_by}
 use Rattle.r3_chain.specs.Sound.{one_if, total, room_count, uses, IsHead, IsSound}
 use Rattle.r3_chain.specs.declared.node.Node.{Node}
 use Rattle.r3_chain.specs.declared.head.Head.{Head}
-use Rattle.r3_chain.proofs.LinkLemmas.{trace_longer, trace_kept, trace_pushed, nothing, seen_same, seen_other}
-use Rattle.r3_chain.proofs.HeadLemmas.{kept_versions, kept_same, kept_put, kept_alike, sorted_kept, room_is, room_same, room_less, room_more, all_map, all_put, all_found, total_alike, total_put, total_added}
+use Rattle.r3_chain.proofs.LinkLemmas.{trace_longer, trace_kept, trace_pushed, nothing}
+use Rattle.r3_chain.proofs.HeadLemmas.{kept_versions, kept_put, kept_alike, sorted_kept, room_is, room_less, all_map, all_put, all_found, total_alike, total_put}
 
 module _ {V : Type 0} (nodes : Slots (Node V)) where
   pub no_chain : chain_in nodes None ≡ []

@@ -1,7 +1,6 @@
 -- What contracts see of version chains: each key's versions, and the keys that have room for one more.
-use Rattle.std.specs.Prelude.{◌≡◌, ◌≢◌, ℕ, ◌+◌, ◌<◌, ◌≤◌, Bool, cond, not, ◌&&◌, nat_le, List, [], ◌∷◌, length, fold, filter, map, sum_by, Option, Some, None, option_and_then, unwrap_or, refl}
-use Rattle.std.specs.Option.{option_map, option_map_or}
-use Rattle.std.specs.List.{filter_map, list_any, AllByRecursion}
+use Rattle.std.specs.Prelude.{ℕ, ◌+◌, ◌<◌, ◌≤◌, Bool, cond, ◌&&◌, nat_le, List, [], ◌∷◌, length, fold, filter, map, Option, Some, None, unwrap_or, refl}
+use Rattle.std.specs.List.{list_any, AllByRecursion}
 use Rattle.std.specs.Ordering.{is_le, is_gt, eq_by_cmp}
 use Rattle.std.specs.declared.cmp.Ordering.{Ordering}
 use Rattle.std.specs.FinMap.{find}

@@ -1,6 +1,6 @@
-use Rattle.std.proofs.Common.{◌≡◌, ◌<◌, ◌∷◌, length, arith, ap, sym, ◌∙◌, Some}
-use Rattle.r3_chain.specs.Versions.{first_past as past, AreFalling}
-use Rattle.r3_chain.specs.Links.{IsChain, chain_in}
+use Rattle.std.proofs.Common.{◌≡◌, ◌<◌, ◌∷◌, length, arith, ap, sym, ◌∙◌}
+use Rattle.r3_chain.specs.Versions.{first_past as past}
+use Rattle.r3_chain.specs.Links.{chain_in}
 use Rattle.r3_chain.proofs.LinkLemmas.{chain_step}
 use Rattle.r3_chain.proofs.WalkLemmas.{or_first, past_done, past_more}
 use Rattle.r3_chain.proofs.node.first_past.Goals as goal

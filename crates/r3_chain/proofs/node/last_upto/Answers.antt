@@ -1,6 +1,6 @@
-use Rattle.std.proofs.Common.{◌≡◌, ◌<◌, ◌∷◌, length, arith, ap, sym, ◌∙◌, Some}
+use Rattle.std.proofs.Common.{◌≡◌, ◌<◌, ◌∷◌, length, arith, ap, sym, ◌∙◌}
 use Rattle.r3_chain.specs.Versions.{last_upto as upto}
-use Rattle.r3_chain.specs.Links.{IsChain, chain_in}
+use Rattle.r3_chain.specs.Links.{chain_in}
 use Rattle.r3_chain.proofs.LinkLemmas.{chain_step}
 use Rattle.r3_chain.proofs.WalkLemmas.{upto_later}
 use Rattle.r3_chain.proofs.node.last_upto.Goals as goal

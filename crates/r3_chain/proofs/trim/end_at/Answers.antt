@@ -1,4 +1,4 @@
-use Rattle.std.proofs.Common.{◌≡◌, ◌+◌, ◌<◌, ap, arith}
+use Rattle.std.proofs.Common.{◌≡◌, ◌+◌, ap, arith}
 use Rattle.r3_chain.proofs.TrimLemmas.{ends_at}
 use Rattle.r3_chain.proofs.trim.end_at.Goals as goal
 

@@ -1,4 +1,4 @@
-use Rattle.std.proofs.Common.{◌≡◌, ◌+◌, ◌<◌, ap, arith, sym}
+use Rattle.std.proofs.Common.{◌≡◌, ◌+◌, ◌<◌, ap, arith}
 use Rattle.r3_pool.specs.Slots.{value_at, live_count}
 use Rattle.r3_chain.proofs.LinkLemmas.{first_live}
 use Rattle.r3_chain.proofs.TrimLemmas.{freeing_starts, freeing_ends, freeing_goes_on}

@@ -1,6 +1,6 @@
-use Rattle.std.proofs.Common.{◌≡◌, ◌<◌, ◌∷◌, length, arith, ap, sym, ◌∙◌, Some}
+use Rattle.std.proofs.Common.{◌<◌, length, arith, ap, sym, ◌∙◌}
 use Rattle.r3_pool.specs.Slots.{value_at, live_count}
-use Rattle.r3_chain.specs.Links.{IsChain, trace}
+use Rattle.r3_chain.specs.Links.{trace}
 use Rattle.r3_chain.specs.Cuts.{first_slot}
 use Rattle.r3_chain.proofs.LinkLemmas.{trace_step}
 use Rattle.r3_chain.proofs.TrimLemmas.{slot_later}

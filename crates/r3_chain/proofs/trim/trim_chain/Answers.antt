@@ -1,7 +1,7 @@
-use Rattle.std.proofs.Common.{◌≡◌, ap, sym, ◌∙◌, subst, Some, None}
+use Rattle.std.proofs.Common.{ap, sym, ◌∙◌, subst}
 use Rattle.r3_pool.specs.Slots.{value_at, live_count}
 use Rattle.r3_chain.specs.Links.{trace}
-use Rattle.r3_chain.specs.Cuts.{Frees, first_slot}
+use Rattle.r3_chain.specs.Cuts.{Frees}
 use Rattle.r3_chain.proofs.LinkLemmas.{first_live}
 use Rattle.r3_chain.proofs.TrimLemmas.{at_slot, line_behind, trims, trims_nothing}
 use Rattle.r3_chain.proofs.trim.trim_chain.Goals as goal

@@ -1,7 +1,7 @@
-use Rattle.std.proofs.Common.{◌≡◌, ◌∷◌, ◌++◌, [], map, ap, sym, ◌∙◌, subst}
+use Rattle.std.proofs.Common.{◌≡◌, [], map, sym, subst}
 use Rattle.std.specs.Map.Iter.{deref_pair}
 use Rattle.std.proofs.lemmas.Map.Iter.{rest_more, rest_all}
-use Rattle.r3_pool.specs.Slots.{value_at, live_count}
+use Rattle.r3_pool.specs.Slots.{live_count}
 use Rattle.r3_chain.proofs.RangeLemmas.{map_push}
 use Rattle.r3_chain.proofs.ForestLemmas.{Trimming, trimming_starts, trimming_ends, trimming_goes_on, trims_fuel, line_of}
 use Rattle.r3_chain.proofs.trim.trim_heads.Goals as goal

@@ -1,11 +1,8 @@
-use Rattle.std.proofs.Common.{◌≡◌, ◌<◌, ◌+◌, ◌-◌, ◌≤◌, [], ◌∷◌, length, arith, refl, sym, ap, ◌∙◌, subst, is_some, true, Some, None}
-use Rattle.std.specs.FinMap.{find}
+use Rattle.std.proofs.Common.{◌≡◌, ◌<◌, ◌-◌, arith, sym, ap, ◌∙◌, is_some, true}
 use Rattle.std.specs.FinMap.Entries.{put}
-use Rattle.r3_pool.specs.Slots.{Fills}
 use Rattle.r3_chain.specs.Versions.{has_room, IsNext}
 use Rattle.r3_chain.specs.Links.{chain_in}
-use Rattle.r3_chain.specs.Heads.{room_in, kept_by, newest_in, written}
-use Rattle.r3_chain.specs.declared.head.Head.{Head}
+use Rattle.r3_chain.specs.Heads.{room_in, kept_by, written}
 use Rattle.r3_chain.proofs.SoundLemmas.{has_head, has_spare, room_after, versions_after, sound_after}
 use Rattle.r3_chain.proofs.chains.Chains.install.Goals as goal
 

@@ -1,18 +1,12 @@
-use Rattle.std.proofs.Common.{◌≡◌, ◌∷◌, ◌++◌, [], List, map, Some, None, sym, ap, ◌∙◌, true, subst}
-use Rattle.std.specs.Prelude.{filter, ◌==◌}
-use Rattle.std.specs.Option.{option_map}
+use Rattle.std.proofs.Common.{◌≡◌, ◌∷◌, ◌++◌, [], map, sym, ap, ◌∙◌, subst}
 use Rattle.std.specs.List.{AllByRecursion}
-use Rattle.std.specs.Ordering.{ordering_index}
-use Rattle.std.specs.BTreeMap.Range.{range_contains}
-use Rattle.std.specs.declared.ops.Bound.TheVariants.{Included, Excluded}
 use Rattle.std.specs.declared.cmp.Ordering.TheVariants.{Greater}
 use Rattle.std.specs.Map.Iter.{deref_pair}
 use Rattle.std.proofs.lemmas.Map.Iter.{iter_turn, iter_end}
-use Rattle.r3_chain.specs.Versions.{present, last_upto as upto, range_at}
-use Rattle.r3_chain.specs.Links.{chain_in, IsChain}
-use Rattle.r3_chain.specs.Heads.{kept_by}
+use Rattle.r3_chain.specs.Versions.{present, last_upto as upto}
+use Rattle.r3_chain.specs.Links.{chain_in}
 use Rattle.r3_chain.specs.Sound.{IsHead}
-use Rattle.r3_chain.proofs.RangeLemmas.{given, item_of, item_some, item_none, given_push, given_range, range_back, greater, map_push, nothing_after, all_filter, all_get}
+use Rattle.r3_chain.proofs.RangeLemmas.{given, item_some, item_none, given_push, given_range, range_back, greater, map_push, nothing_after, all_filter, all_get}
 use Rattle.r3_chain.proofs.chains.Chains.range.Goals as goal
 
 pub returns-then-eq : goal.returns-then-eq

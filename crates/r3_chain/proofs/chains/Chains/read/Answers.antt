@@ -1,7 +1,6 @@
-use Rattle.std.proofs.Common.{◌≡◌, refl, sym, ap, ◌∙◌, Some, None}
-use Rattle.std.specs.Option.{option_map, option_map_or}
-use Rattle.r3_chain.specs.Versions.{versions_of, present, last_upto as upto, first_past as past}
-use Rattle.r3_chain.specs.Links.{IsChain, chain_in}
+use Rattle.std.proofs.Common.{◌≡◌, sym, ap, ◌∙◌, Some}
+use Rattle.r3_chain.specs.Versions.{versions_of, present, last_upto as upto}
+use Rattle.r3_chain.specs.Links.{chain_in}
 use Rattle.r3_chain.proofs.SoundLemmas.{chain_is, head_chain}
 use Rattle.r3_chain.proofs.chains.Chains.read.Goals as goal
 

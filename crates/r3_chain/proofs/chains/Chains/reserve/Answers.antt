@@ -1,9 +1,9 @@
-use Rattle.std.proofs.Common.{◌≡◌, ◌<◌, ◌+◌, ◌≤◌, [], ◌∷◌, ◌++◌, List, length, max, arith, refl, sym, ap, ◌∙◌, subst, fold, Ok, Err}
+use Rattle.std.proofs.Common.{◌≡◌, ◌<◌, ◌+◌, ◌≤◌, [], length, max, arith, refl, sym, ap, ◌∙◌, fold}
 use Rattle.std.specs.BTreeSet.{insert_key}
 use Rattle.r3_pool.specs.Slots.{live_count, with_spare}
 use Rattle.r3_chain.specs.Versions.{kept_count, key_set}
 use Rattle.r3_chain.specs.Links.{chain_in}
-use Rattle.r3_chain.specs.Heads.{all_roomed, kept_by, room_in}
+use Rattle.r3_chain.specs.Heads.{all_roomed, kept_by}
 use Rattle.r3_chain.specs.Sound.{IsSound, room_count}
 use Rattle.r3_chain.proofs.PutLemmas.{inserted_again}
 use Rattle.r3_chain.proofs.RoomLemmas.{sound_all, kept_all, room_all, count_all, keys_all, none_yet, later_round, next_round, more_spare, view_same, on_ok}

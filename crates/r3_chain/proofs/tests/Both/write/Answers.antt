@@ -1,7 +1,7 @@
-use Rattle.std.proofs.Common.{◌≡◌, [], ◌∷◌, sym, ap, ◌∙◌}
+use Rattle.std.proofs.Common.{◌≡◌, [], ◌∷◌, ap}
 use Rattle.std.specs.Ordering.{nat_cmp}
 use Rattle.std.specs.FinMap.{nat_cmp-IsAntisymmetric}
-use Rattle.r3_chain.specs.Versions.{has_room, key_set}
+use Rattle.r3_chain.specs.Versions.{key_set}
 use Rattle.r3_chain.proofs.TwinLemmas.{one_key, next_up, next_after}
 use Rattle.r3_chain.proofs.tests.Both.write.Goals as goal
 
