@@ -105,9 +105,9 @@ module _ (base : Versions) (table key : List ℕ) (keys : List (List ℕ × ℕ)
   pub pass_end : rest ≡ [] → Passes base table key keys rest old new
   pass_end is =
       passed rest (λ left.
-          ap (λ ks. row_left key left (map (key_row base table) ks)) is
-          ∙ sym (append-nil (row_left key left []))
-          ∙ ap (λ ks. row_left key left [] ++ map (key_row base table) ks) (sym is))
+      ap (λ ks. row_left key left (map (key_row base table) ks)) is
+      ∙ sym (append-nil (row_left key left []))
+      ∙ ap (λ ks. row_left key left [] ++ map (key_row base table) ks) (sym is))
 
 -- ---- the whole pass
 
@@ -164,8 +164,8 @@ module _ (cmp : RowKey → RowKey → Ordering) (order : (a b : RowKey) → cmp 
       (λ i. is_le (order a e.0 i) && not (is_le ((order b e.0 ∙ ap (λ t. ordering_then (bytes_cmp t e.0.table) (bytes_cmp b.key e.0.key)) same) i)))
       ∙ in_range (bytes_cmp a.table e.0.table) (bytes_cmp a.key e.0.key) (bytes_cmp b.key e.0.key)
       ∙ (λ i. (ap is_eq (sym (turned e.0.table a.table)) ∙ sym (eq_is e.0.table a.table)) i
-          && not ((ap is_lt (sym (turned e.0.key a.key)) ∙ sym (lt_is e.0.key a.key)) i)
-          && (ap is_lt (sym (turned e.0.key b.key)) ∙ sym (lt_is e.0.key b.key)) i)
+      && not ((ap is_lt (sym (turned e.0.key a.key)) ∙ sym (lt_is e.0.key a.key)) i)
+      && (ap is_lt (sym (turned e.0.key b.key)) ∙ sym (lt_is e.0.key b.key)) i)
 
   by_test : (t : Bool) (e : RowKey × Option Val) (es : Entries) (rows : List Row) (x y : List Row) → x ≡ all_left es (row_left e.0.key e.1 rows) → y ≡ all_left es rows → cond t x y ≡ all_left (cond t (e ∷ es) es) rows
   by_test true e es rows x y h k = h

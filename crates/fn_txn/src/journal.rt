@@ -7,10 +7,10 @@ ghost use Rattle.fn_txn.specs.RowKeys.{write_of};
 ghost use Rattle.fn_txn.specs.Rows.{key_row};
 ghost use Rattle.fn_txn.specs.Journals.{Recorded, looked, total_with, wrote_key};
 
-use crate::row_key::{RowKey, row_order};
-use crate::view::View;
 use crate::look_place::{LookPlace, place, place_order};
 use crate::merge::merged;
+use crate::row_key::{RowKey, row_order};
+use crate::view::View;
 use fn_tree::look::Look;
 use r3_value::{Memory, Txt, Val};
 use sqlite_items::Items;

@@ -10,7 +10,7 @@ returns-then-contains c =
     let looks = c.self.inside.looks.items in
     let writes = map write_of c.self.inside.writes.entries in
     let old : contains_look looks c.args.look ≡ true =
-        c.self.invariant.indexed c.args.look ∙ sym (found_is _ c.place_order.ensures c.args.look c.in_ok-at.at c.in_ok-at.ensures c.self.inside.places.keys) ∙ sym c.contains.ensures ∙ c.if-contains.true in
+    c.self.invariant.indexed c.args.look ∙ sym (found_is _ c.place_order.ensures c.args.look c.in_ok-at.at c.in_ok-at.ensures c.self.inside.places.keys) ∙ sym c.contains.ensures ∙ c.if-contains.true in
     let e : looked c.args.look (record { looks = looks; writes = writes }) ≡ Some (record { looks = looks; writes = writes }) = looked_again c.args.look looks writes old in
     let v = c.self.view_is in
     first_of (search rules, grind arith)
@@ -27,7 +27,7 @@ returns-in-None c =
     let looks = c.self.inside.looks.items in
     let writes = map write_of c.self.inside.writes.entries in
     let new : contains_look looks c.args.look ≡ false =
-        c.self.invariant.indexed c.args.look ∙ sym (found_is _ c.place_order.ensures c.args.look c.in_ok-at.at c.in_ok-at.ensures c.self.inside.places.keys) ∙ sym c.contains.ensures ∙ c.if-contains.false in
+    c.self.invariant.indexed c.args.look ∙ sym (found_is _ c.place_order.ensures c.args.look c.in_ok-at.at c.in_ok-at.ensures c.self.inside.places.keys) ∙ sym c.contains.ensures ∙ c.if-contains.false in
     let e : looked c.args.look (record { looks = looks; writes = writes }) ≡ None = looked_too_many c.args.look looks writes c.self.inside.items new c.self.invariant.counted (sym c.total.ensures ∙ c.in-None.is) in
     let v = c.self.view_is in
     first_of (search rules, grind arith)
@@ -37,9 +37,9 @@ returns-in_ok-insert-in-Some c =
     let looks = c.self.inside.looks.items in
     let writes = map write_of c.self.inside.writes.entries in
     let new : contains_look looks c.args.look ≡ false =
-        c.self.invariant.indexed c.args.look ∙ sym (found_is _ c.place_order.ensures c.args.look c.in_ok-at.at c.in_ok-at.ensures c.self.inside.places.keys) ∙ sym c.contains.ensures ∙ c.if-contains.false in
+    c.self.invariant.indexed c.args.look ∙ sym (found_is _ c.place_order.ensures c.args.look c.in_ok-at.at c.in_ok-at.ensures c.self.inside.places.keys) ∙ sym c.contains.ensures ∙ c.if-contains.false in
     let grown = c.push_reserved.ensures.items ∙ (λ i. c.in_ok-reserve-in-Some.ensures.items i ++ c.args.look ∷ []) in
     let e : looked c.args.look (record { looks = looks; writes = writes }) ≡ Some (record { looks = c.push_reserved.new.self.items; writes = writes }) =
-        looked_more c.args.look looks c.push_reserved.new.self.items writes c.self.inside.items c.in-Some.items new c.self.invariant.counted (sym c.total.ensures ∙ c.in-Some.is) grown in
+    looked_more c.args.look looks c.push_reserved.new.self.items writes c.self.inside.items c.in-Some.items new c.self.invariant.counted (sym c.total.ensures ∙ c.in-Some.is) grown in
     let v = c.self.view_is in
     first_of (search rules, grind arith)
