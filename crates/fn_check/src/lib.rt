@@ -11,6 +11,8 @@ mod expression;
 mod fault;
 mod readable;
 mod statement;
+#[cfg(test)]
+mod tests;
 mod uses;
 mod variables;
 

@@ -23,17 +23,13 @@ use Rattle.fn_walk.specs.declared.broken.Break.TheVariants as broken
 use Rattle.fn_walk.proofs.RunLemmas.{broke, along}
 use Rattle.fn_txn.specs.declared.row_key.RowKey.{RowKey}
 use Rattle.fn_txn.specs.RowKeys.{row_cmp, write_of}
+use Rattle.fn_txn.specs.Rows.{key_row}
 use Rattle.fn_txn.specs.Journals.{looked, wrote_key, kept_or_size}
 use Rattle.fn_txn.specs.Texts.{text_or_word, IsTextOrWord}
 use Rattle.fn_txn.proofs.OrderLemmas.{insert_is, length_absent, length_writes}
 
 abbrev pub nothing : Request → Option Never
 nothing q = None
-
--- the length of all looks' items, with one more
-pub read_items_last : (ls : List Look) (l : Look) → read_items (ls ++ l ∷ []) ≡ read_items ls + items_of_look l
-read_items_last [] l = omega arith
-read_items_last (m ∷ ls) l = omega (arith, read_items_last ls l)
 
 pub fits_key_none : (s : List ℕ) → length s ≡ 0 → false ≡ fits_key s
 fits_key_none [] n = refl
@@ -149,9 +145,6 @@ scan_broke base table lo hi t e at is h =
 
 abbrev pub with_version : Versions → List ℕ → List ℕ → List ℕ × ℕ
 with_version base table key = (key, base.version table key)
-
-abbrev pub key_row : Versions → List ℕ → List ℕ × ℕ → Row
-key_row base table k = (k.0, or_null (base.cell table k.0))
 
 abbrev pub row_at : Versions → List ℕ → List ℕ → Row
 row_at base table key = (key, or_null (base.cell table key))

@@ -1,5 +1,6 @@
 pub mod OrderLemmas
+pub mod PlaceLemmas
 pub mod JournalLemmas
-pub mod RowLemmas
+pub mod MergeLemmas
 pub mod PairLemmas
 pub mod CountLemmas

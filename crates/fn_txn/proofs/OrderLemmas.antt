@@ -33,7 +33,7 @@ eq_is s t = search (comparing, rules)
 eq_flip : (s t : List ℕ) → bytes_eq s t ≡ bytes_eq t s
 eq_flip s t = search (comparing, rules)
 
-then_eq : (a b : Ordering) → (is_eq a && is_eq b) ≡ is_eq (ordering_then a b)
+pub then_eq : (a b : Ordering) → (is_eq a && is_eq b) ≡ is_eq (ordering_then a b)
 then_eq Less b = refl
 then_eq Equal b = refl
 then_eq Greater b = refl

@@ -6,10 +6,13 @@ use Rattle.fn_tree.specs.Ends.{At, Ends, Goes, Failed}
 use Rattle.fn_tree.specs.Writes.{Log, Never, with_write}
 use Rattle.fn_tree.specs.Looks.{items_of_look, read_items, contains_look}
 use Rattle.fn_txn.specs.declared.row_key.RowKey.{RowKey}
+use Rattle.fn_txn.specs.declared.look_place.LookPlace.{LookPlace}
+use Rattle.fn_txn.specs.LookPlaces.{IsIndex}
 
--- the looks' number of items is known, and the limits are kept
-pub record IsKept (looks : List Look) (items : ℕ) (writes : List (RowKey × Option Val)) : Type 0 where
+-- the looks' number of items and their places are known, and the limits are kept
+pub record IsKept (looks : List Look) (items : ℕ) (places : List LookPlace) (writes : List (RowKey × Option Val)) : Type 0 where
   pub counted : items ≡ read_items looks
+  pub indexed : IsIndex looks places
   pub few : items ≤ 4096
   pub few_keys : length writes ≤ 1024
 

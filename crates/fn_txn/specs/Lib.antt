@@ -1,5 +1,6 @@
 pub mod RowKeys
 pub mod LogCode
+pub mod LookPlaces
 pub mod Journals
 pub mod Rows
 pub mod Held

@@ -2,18 +2,20 @@
 
 ghost use Rattle.std.specs.Prelude.{◌≡◌, ◌≤◌, [], IfOk, map};
 ghost use Rattle.std.specs.Option.{option_copied};
-ghost use Rattle.fn_tree.specs.Looks.{contains_look, same_place};
 ghost use Rattle.fn_tree.specs.Writes.{rows_under, written_at};
 ghost use Rattle.fn_txn.specs.RowKeys.{write_of};
+ghost use Rattle.fn_txn.specs.Rows.{key_row};
 ghost use Rattle.fn_txn.specs.Journals.{Recorded, looked, total_with, wrote_key};
 
+use crate::look_place::{LookPlace, place, place_order};
+use crate::merge::merged;
 use crate::row_key::{RowKey, row_order};
-use crate::scan::{is_below, leave};
+use crate::view::View;
 use fn_tree::look::Look;
 use r3_value::{Memory, Txt, Val};
 use sqlite_items::Items;
 use std::alloc::Global;
-use std::collections::BTreeMap;
+use std::collections::{BTreeMap, BTreeSet};
 use std::marker::Model;
 
 /// At most so many keys are written, and so many items are read.
@@ -26,6 +28,8 @@ const MOST_ITEMS: usize = 4096;
 pub struct Journal {
     looks: Vec<Look>,
     items: usize,
+    // The places of the looks: a look is found without going through them.
+    places: BTreeSet<LookPlace>,
     writes: BTreeMap<RowKey, Option<Val>>,
 }
 
@@ -42,56 +46,7 @@ impl Model for Journal {
 
     ghost view = { λ j. record { looks = j.looks.items; writes = map write_of j.writes.entries } };
 
-    ghost invariant = { λ j. IsKept j.looks.items j.items j.writes.entries };
-}
-
-fn same(a: &Look, b: &Look) -> bool
-    ensures { result ≡ same_place a.now b.now }
-{
-    match a {
-        Look::At {
-            table,
-            key,
-            version: _,
-        } => match b {
-            Look::At {
-                table: t,
-                key: k,
-                version: _,
-            } => table.as_str() == t.as_str() && key.as_str() == k.as_str(),
-            _ => false,
-        },
-        Look::Range {
-            table,
-            lo,
-            hi,
-            keys: _,
-        } => match b {
-            Look::Range {
-                table: t,
-                lo: l,
-                hi: h,
-                keys: _,
-            } => {
-                table.as_str() == t.as_str()
-                    && lo.as_str() == l.as_str()
-                    && hi.as_str() == h.as_str()
-            }
-            _ => false,
-        },
-    }
-}
-
-// The place was looked at before.
-fn contains(looks: &[Look], look: &Look) -> bool
-    ensures { result ≡ contains_look looks.now look.now }
-{
-    for l in looks {
-        if same(l, look) {
-            return true;
-        }
-    }
-    false
+    ghost invariant = { λ j. IsKept j.looks.items j.items j.places.keys j.writes.entries };
 }
 
 // The number of read items with one look more, unless it passes the limit.
@@ -113,28 +68,6 @@ fn total(look: &Look, items: usize) -> Option<usize>
     } else {
         None
     }
-}
-
-// The rows of a range with the writes over them.
-fn under(
-    writes: &BTreeMap<RowKey, Option<Val>>,
-    table: &Txt,
-    lo: &Txt,
-    hi: &Txt,
-    rows: Vec<(Txt, Val)>,
-) -> Result<Vec<(Txt, Val)>, Memory>
-    ensures { IfOk result (λ r. r.items ≡ rows_under (map write_of writes.now.entries) table.now lo.now hi.now rows.items) }
-{
-    let mut rows = rows;
-    for (row, left) in writes {
-        if row.table.as_str() == table.as_str()
-            && !is_below(row.key.as_str(), lo.as_str())
-            && is_below(row.key.as_str(), hi.as_str())
-        {
-            leave(&mut rows, &row.key, left)?;
-        }
-    }
-    Ok(rows)
 }
 
 // The writes in the order of their keys.
@@ -160,6 +93,7 @@ impl Journal {
         Journal {
             looks: Vec::new(alloc),
             items: 0,
+            places: BTreeSet::new(alloc),
             writes: BTreeMap::new(alloc),
         }
     }
@@ -189,34 +123,39 @@ impl Journal {
     }
 
     /// Records a look, once. It answers false where that makes too many read items.
-    #[tactic(auto, using(crate::proofs::JournalLemmas::read_items_last))]
     pub fn look(&mut self, look: Look) -> Result<bool, Memory>
         ensures { IfOk result (λ fits. Recorded fits (looked look self.old) self.old self.new) }
     {
-        if contains(self.looks.as_slice(), &look) {
+        place_order();
+        let at = place(&look)?;
+        if self.places.contains(&at) {
             return Ok(true);
         }
         match total(&look, self.items) {
             None => Ok(false),
             Some(items) => {
-                self.looks.push(look)?;
+                self.looks.reserve(1)?;
+                self.places.insert(at)?;
+                self.looks.push_reserved(look);
                 self.items = items;
                 Ok(true)
             }
         }
     }
 
-    /// The rows of a range with the writes over them.
-    pub fn over(
+    /// The rows of a range's keys with the writes over them.
+    pub fn over<M: View>(
         &self,
+        alloc: Global,
+        view: &M,
         table: &Txt,
         lo: &Txt,
         hi: &Txt,
-        rows: Vec<(Txt, Val)>,
+        keys: &[(Txt, u32)],
     ) -> Result<Vec<(Txt, Val)>, Memory>
-        ensures { IfOk result (λ r. r.items ≡ rows_under self.now.writes table.now lo.now hi.now rows.items) }
+        ensures { IfOk result (λ r. r.items ≡ rows_under self.now.writes table.now lo.now hi.now (map (key_row (M.versions view.now) table.now) keys.now)) }
     {
-        let rows = under(&self.writes, table, lo, hi, rows)?;
+        let rows = merged(alloc, view, &self.writes, table, lo, hi, keys)?;
         Ok(rows)
     }
 
@@ -227,6 +166,7 @@ impl Journal {
         let Journal {
             looks,
             items: _,
+            places: _,
             writes: _,
         } = self;
         Items::from_vec(looks)
@@ -242,6 +182,7 @@ impl Journal {
         let Journal {
             looks,
             items: _,
+            places: _,
             writes,
         } = self;
         let writes = listed(alloc, writes)?;

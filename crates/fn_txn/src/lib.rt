@@ -7,7 +7,9 @@
 
 mod held;
 mod journal;
+mod look_place;
 mod mem_view;
+mod merge;
 mod on_view;
 mod row_key;
 mod run;

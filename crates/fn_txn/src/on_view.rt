@@ -16,7 +16,7 @@ ghost use Rattle.fn_txn.specs.Journals.{kept_or_size, looked, wrote_key};
 
 use crate::journal::Journal;
 use crate::row_key::RowKey;
-use crate::scan::{listed, rows_of, value_at};
+use crate::scan::{listed, value_at};
 use crate::texts::{bound_of, key_of};
 use crate::view::View;
 use fn_tree::look::Look;
@@ -122,8 +122,7 @@ fn seen<M: View>(
     ensures { IfOk result (λ r. (r.0 ≡ txn.found (M.versions view.now) table.now lo.now hi.now) × (r.1 ≡ meaning.list_or_size (map pair_value (rows_under journal.now.writes table.now lo.now hi.now (txn.rows_at (M.versions view.now) table.now lo.now hi.now))))) }
 {
     let keys = view.keys(table.as_str(), lo.as_str(), hi.as_str())?;
-    let rows = rows_of(alloc, view, table, keys.as_slice())?;
-    let under = journal.over(table, lo, hi, rows)?;
+    let under = journal.over(alloc, view, table, lo, hi, keys.as_slice())?;
     let outcome = listed(alloc, under.as_slice())?;
     let look = Look::Range {
         table: table.copy()?,

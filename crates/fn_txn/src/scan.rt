@@ -1,11 +1,10 @@
-//! The rows of a range, with the body's own writes over them.
+//! A row of the map, and the list that a scan gives.
 
 ghost use Rattle.std.specs.Prelude.{◌≡◌, List, ◌∷◌, ◌++◌, codes, map, IfOk, MatchOption};
 ghost use Rattle.fn_tree.specs.Sequences as meaning;
 ghost use Rattle.fn_tree.specs.Values as values;
-ghost use Rattle.fn_tree.specs.Writes.{pair_value, row_left};
+ghost use Rattle.fn_tree.specs.Writes.{pair_value};
 ghost use Rattle.fn_tree.specs.Comparison as order;
-ghost use Rattle.fn_txn.specs.Rows.{IsRowPlace};
 ghost use Rattle.r3_value.specs.declared.value.Val.{Val as V};
 
 use crate::view::View;
@@ -28,39 +27,6 @@ pub fn value_at<M: View>(view: &M, table: &Txt, key: &Txt) -> Result<(Val, u32),
     }
 }
 
-/// The rows of the keys.
-pub fn rows_of<M: View>(
-    alloc: Global,
-    view: &M,
-    table: &Txt,
-    keys: &[(Txt, u32)],
-) -> Result<Vec<(Txt, Val)>, Memory>
-    ensures { IfOk result (λ rows. rows.items ≡ map (λ k. (k.0, values.or_null ((M.versions view.now).cell table.now k.0))) keys.now) }
-{
-    let mut rows = Vec::new(alloc);
-    for pair in keys {
-        let (v, _) = value_at(view, table, &pair.0)?;
-        rows.push((pair.0.copy()?, v))?;
-    }
-    Ok(rows)
-}
-
-// Where the row of a key stands, or where it belongs.
-#[tactic(auto, using(crate::proofs::RowLemmas::row_found, crate::proofs::RowLemmas::row_stops, crate::proofs::RowLemmas::row_more, crate::proofs::RowLemmas::row_end, crate::proofs::RowLemmas::none_past))]
-fn place(rows: &[(Txt, Val)], key: &Txt) -> Result<usize, usize>
-    ensures { IsRowPlace key.now rows.now result }
-{
-    for (i, row) in rows.iter().enumerate() {
-        if row.0.as_str() == key.as_str() {
-            return Ok(i);
-        }
-        if is_below(key.as_str(), row.0.as_str()) {
-            return Err(i);
-        }
-    }
-    Err(rows.len())
-}
-
 /// The first text stands before the second in byte order.
 #[tactic(auto, using(crate::proofs::OrderLemmas::lt_is))]
 pub fn is_below(a: &str, b: &str) -> bool
@@ -69,31 +35,6 @@ pub fn is_below(a: &str, b: &str) -> bool
     match a.cmp(b) {
         Ordering::Less => true,
         _ => false,
-    }
-}
-
-/// The rows with one key as the body left it.
-pub fn leave(rows: &mut Vec<(Txt, Val)>, key: &Txt, left: &Option<Val>) -> Result<(), Memory>
-    ensures { IfOk result (λ _. rows.new.items ≡ row_left key.now left.now rows.old.items) }
-{
-    match place(rows.as_slice(), key) {
-        Ok(i) => match left {
-            Some(v) => {
-                rows[i] = (key.copy()?, v.copy()?);
-                Ok(())
-            }
-            None => {
-                let _ = rows.remove(i);
-                Ok(())
-            }
-        },
-        Err(i) => match left {
-            Some(v) => {
-                rows.insert(i, (key.copy()?, v.copy()?))?;
-                Ok(())
-            }
-            None => Ok(()),
-        },
     }
 }
 

@@ -18,5 +18,5 @@ returns g c =
     let under : List Row → List Row = λ r. rows_under c.args.journal.now.writes table c.args.lo.now c.args.hi.now r in (
       (λ i. look.Range (c.in_ok-copy.ensures i) (c.in_ok-copy-2.ensures i) (c.in_ok-copy-3.ensures i) ((c.from_vec.ensures ∙ keys) i)),
       c.in_ok-outcome.ensures
-          ∙ ap shown (c.as_slice-2.ensures.value ∙ c.in_ok-under.ensures ∙ ap under (c.in_ok-rows.ensures ∙ ap (map row) (c.as_slice.ensures.value ∙ keys) ∙ rows_from_keys base table (base.keys table c.args.lo.now c.args.hi.now))),
+          ∙ ap shown (c.as_slice-2.ensures.value ∙ c.in_ok-under.ensures ∙ ap under (ap (map row) (c.as_slice.ensures.value ∙ keys) ∙ rows_from_keys base table (base.keys table c.args.lo.now c.args.hi.now))),
     )
