@@ -45,9 +45,10 @@ one-named i e f g =
 
 named-all : (items : List Item) → each_passes (λ i. are_names (names_in i)) items ≡ true → each_passes (λ i. nat_lt (length (params_of i)) 17) items ≡ true → each_passes item_fits items ≡ true → AllByRecursion IsNamed items
 named-all [] e f g = tt
-named-all (i ∷ items) e f g =
-    (one-named i (and_first (are_names (names_in i)) (each_passes (λ i. are_names (names_in i)) items) e) (and_first (nat_lt (length (params_of i)) 17) (each_passes (λ i. nat_lt (length (params_of i)) 17) items) f) (and_first (item_fits i) (each_passes item_fits items) g),
-    named-all items (and_second (are_names (names_in i)) (each_passes (λ i. are_names (names_in i)) items) e) (and_second (nat_lt (length (params_of i)) 17) (each_passes (λ i. nat_lt (length (params_of i)) 17) items) f) (and_second (item_fits i) (each_passes item_fits items) g))
+named-all (i ∷ items) e f g = (
+  one-named i (and_first (are_names (names_in i)) (each_passes (λ i. are_names (names_in i)) items) e) (and_first (nat_lt (length (params_of i)) 17) (each_passes (λ i. nat_lt (length (params_of i)) 17) items) f) (and_first (item_fits i) (each_passes item_fits items) g),
+  named-all items (and_second (are_names (names_in i)) (each_passes (λ i. are_names (names_in i)) items) e) (and_second (nat_lt (length (params_of i)) 17) (each_passes (λ i. nat_lt (length (params_of i)) 17) items) f) (and_second (item_fits i) (each_passes item_fits items) g),
+)
 
 pub all-named : (items : List Item) → IsSound items → HoldsValues items → AllByRecursion IsNamed items
 all-named items sound holds = named-all items sound.names sound.few_params holds
