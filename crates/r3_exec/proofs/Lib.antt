@@ -1,9 +1,11 @@
 pub mod Begun
 pub mod Commits
+pub mod Dequeuing
 pub mod Doing
 pub mod Entered
 pub mod Entering
 pub mod Few
+pub mod Gathering
 pub mod Leaving
 pub mod Maps
 pub mod Noting
