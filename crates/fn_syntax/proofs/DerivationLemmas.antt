@@ -5,15 +5,15 @@ use Rattle.std.specs.Str.{bytes_eq}
 use Rattle.std.proofs.lemmas.Slice.Eq.{bytes_eq-Decides}
 use Rattle.fn_lex.specs.declared.span.TokenKind.{TokenKind}
 use Rattle.fn_lex.specs.declared.span.TokenKind.TheVariants as kind
-use Rattle.fn_syntax.specs.declared.lexeme.Lexeme.{Lexeme}
-use Rattle.fn_syntax.specs.declared.symbol.Action.{Action}
-use Rattle.fn_syntax.specs.declared.symbol.Part.{Part as Nonterminal}
-use Rattle.fn_syntax.specs.declared.symbol.Symbol.{Symbol}
-use Rattle.fn_syntax.specs.declared.symbol.Symbol.TheVariants.{Fixed, Name, Param, Bound, Number, Text, Part, Make, Begin, End}
-use Rattle.fn_syntax.specs.Letters.{Letter, fits, spelled, is_fixed, is_name, is_number, is_text}
-use Rattle.fn_syntax.specs.Grammar.{rules}
-use Rattle.fn_syntax.specs.Derivation.{State, IsOneOf, Derives, done, read, make, begin, end, by_rule, over, after_letter, after_make, after_begin, after_end}
-use Rattle.fn_syntax.specs.Steps.{starts, chosen, greedy, Tame, AllTame, input, is_terminal}
+use Rattle.fn_grammar.specs.declared.lexeme.Lexeme.{Lexeme}
+use Rattle.fn_grammar.specs.declared.symbol.Action.{Action}
+use Rattle.fn_grammar.specs.declared.symbol.Part.{Part as Nonterminal}
+use Rattle.fn_grammar.specs.declared.symbol.Symbol.{Symbol}
+use Rattle.fn_grammar.specs.declared.symbol.Symbol.TheVariants.{Fixed, Name, Param, Bound, Number, Text, Part, Make, Begin, End}
+use Rattle.fn_grammar.specs.Letters.{Letter, fits, spelled, is_fixed, is_name, is_number, is_text}
+use Rattle.fn_grammar.specs.Grammar.{rules}
+use Rattle.fn_grammar.specs.Derivation.{State, IsOneOf, Derives, done, read, make, begin, end, by_rule, over, after_letter, after_make, after_begin, after_end}
+use Rattle.fn_grammar.specs.Steps.{starts, chosen, greedy, Tame, AllTame, input, is_terminal}
 use Rattle.fn_syntax.proofs.TableLemmas.{class_of, spelling_of, clash, scan, vanish, any, nil_in, may_in, may, nil, tight, all, ends, tames, is_led, lead, is_greedy, apart, all_apart, every, rules_apart, rules_tame, IsIn, is_tight}
 
 -- truth values

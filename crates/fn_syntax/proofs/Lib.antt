@@ -4,7 +4,6 @@ pub mod StepLemmas
 pub mod ViableLemmas
 pub mod ParseLemmas
 pub mod MachineLemmas
-pub mod NumberLemmas
 pub mod TextLemmas
 pub mod NameLemmas
 pub mod SupplyLemmas

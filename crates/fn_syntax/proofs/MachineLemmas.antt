@@ -2,17 +2,17 @@
 use Rattle.std.proofs.Common.{◌≡◌, ◌<◌, List, [], ◌∷◌, ◌++◌, Option, Some, None, Result, Ok, Err, Bool, true, false, refl, sym, ◌∙◌, subst}
 use Rattle.std.specs.Prelude.{not, IfOk, is_none, is_some}
 use Rattle.r3_value.specs.declared.fault.Memory.{Memory}
-use Rattle.fn_syntax.specs.declared.symbol.Action.{Action}
-use Rattle.fn_syntax.specs.declared.symbol.Part.{Part as Nonterminal}
-use Rattle.fn_syntax.specs.declared.symbol.Symbol.{Symbol}
-use Rattle.fn_syntax.specs.declared.symbol.Symbol.TheVariants.{Part, Make, Begin, End}
+use Rattle.fn_grammar.specs.declared.symbol.Action.{Action}
+use Rattle.fn_grammar.specs.declared.symbol.Part.{Part as Nonterminal}
+use Rattle.fn_grammar.specs.declared.symbol.Symbol.{Symbol}
+use Rattle.fn_grammar.specs.declared.symbol.Symbol.TheVariants.{Part, Make, Begin, End}
 use Rattle.fn_syntax.specs.declared.parser.Parser.{Parser}
-use Rattle.fn_syntax.specs.Letters.{Letter, fits}
-use Rattle.fn_syntax.specs.Grammar.{rules}
-use Rattle.fn_syntax.specs.Derivation.{State, over, after_letter, after_make, after_begin, after_end}
-use Rattle.fn_syntax.specs.Steps.{chosen, AllTame, Went, Refuses, Same, is_terminal, effort}
-use Rattle.fn_syntax.specs.declared.letter.Letter.{Letter as Written}
-use Rattle.fn_syntax.specs.Written.{seen, seen_as}
+use Rattle.fn_grammar.specs.Letters.{Letter, fits}
+use Rattle.fn_grammar.specs.Grammar.{rules}
+use Rattle.fn_grammar.specs.Derivation.{State, over, after_letter, after_make, after_begin, after_end}
+use Rattle.fn_grammar.specs.Steps.{chosen, AllTame, Went, Refuses, Same, is_terminal, effort}
+use Rattle.fn_grammar.specs.declared.letter.Letter.{Letter as Written}
+use Rattle.fn_grammar.specs.Written.{seen, seen_as}
 use Rattle.fn_syntax.specs.Machine.{state_of, IsSpread, IsTaken, Takes}
 use Rattle.fn_syntax.proofs.DerivationLemmas.{tamed, chosen_in}
 use Rattle.fn_syntax.proofs.StepLemmas.{same_went, same_refuses, make_same, begin_same, end_same, part_same, part_refuses, read_went, misfit_refuses, over_refuses, done_went, done_refuses, part_less, pop_less}

@@ -19,7 +19,7 @@ use Rattle.fn_tree.specs.declared.stmt.Stmt.TheFolds.{map-Stmt, fold-Stmt, fold-
 use Rattle.fn_tree.specs.declared.stmt.Stmt.TheVariants.{rolls-Let, rolls-Set, rolls-Do, rolls-Put, rolls-Delete, rolls-If, rolls-While, rolls-Each, rolls-Try, rolls-Return, rolls-Fail}
 use Rattle.fn_tree.specs.declared.program.Item.{Item}
 use Rattle.fn_tree.specs.Soundness.{name_of, params_of, each_passes, is_name, are_names, names_among, names_bound, body_names, names_in}
-use Rattle.fn_syntax.specs.Letters.{Letter, letters, is_name as names_kind}
+use Rattle.fn_grammar.specs.Letters.{Letter, letters, is_name as names_kind}
 use Rattle.fn_syntax.proofs.DerivationLemmas.{and_left, and_right, and_both}
 
 abbrev pub IsName : List ℕ → Type 0

@@ -10,13 +10,13 @@ use Rattle.fn_tree.specs.declared.program.Item.{Item}
 use Rattle.fn_tree.specs.declared.program.Program.{Program}
 use Rattle.fn_syntax.specs.declared.fault.SyntaxError.{SyntaxError}
 use Rattle.fn_syntax.specs.declared.fault.SyntaxError.TheVariants.{Syntax, Memory}
-use Rattle.fn_syntax.specs.declared.symbol.Part.TheVariants as part
-use Rattle.fn_syntax.specs.declared.symbol.Symbol.TheVariants.{Part}
+use Rattle.fn_grammar.specs.declared.symbol.Part.TheVariants as part
+use Rattle.fn_grammar.specs.declared.symbol.Symbol.TheVariants.{Part}
 use Rattle.fn_syntax.specs.declared.parser.Parser.{Parser}
-use Rattle.fn_syntax.specs.Letters.{Letter, letter, letters}
-use Rattle.fn_syntax.specs.Derivation.{State, start, Derives, IsProgram}
-use Rattle.fn_syntax.specs.Place.{CanGoOn, IsStuck, IsPlace, start_of}
-use Rattle.fn_syntax.specs.Steps.{Tame, AllTame, Went, Refuses}
+use Rattle.fn_grammar.specs.Letters.{Letter, letter, letters}
+use Rattle.fn_grammar.specs.Derivation.{State, start, Derives, IsProgram}
+use Rattle.fn_grammar.specs.Place.{CanGoOn, IsStuck, IsPlace, start_of}
+use Rattle.fn_grammar.specs.Steps.{Tame, AllTame, Went, Refuses}
 use Rattle.fn_syntax.specs.Machine.{state_of}
 use Rattle.fn_syntax.proofs.DerivationLemmas.{inv_done}
 use Rattle.fn_syntax.proofs.ViableLemmas.{viable}

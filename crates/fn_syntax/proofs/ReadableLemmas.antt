@@ -10,20 +10,20 @@ use Rattle.fn_tree.specs.declared.stmt.Stmt as stmt
 use Rattle.fn_tree.specs.declared.program.Item.{Item}
 use Rattle.fn_tree.specs.declared.program.Item.TheVariants as item
 use Rattle.fn_tree.specs.Soundness.{each_passes, is_name}
-use Rattle.fn_syntax.specs.declared.symbol.Part.TheVariants as part
-use Rattle.fn_syntax.specs.declared.symbol.Action.{Action}
-use Rattle.fn_syntax.specs.declared.symbol.Action.TheVariants as act
-use Rattle.fn_syntax.specs.declared.symbol.Declaration.{Declaration}
-use Rattle.fn_syntax.specs.declared.symbol.Declaration.TheVariants as item_kind
-use Rattle.fn_syntax.specs.declared.symbol.Statement.{Statement}
-use Rattle.fn_syntax.specs.declared.symbol.Statement.TheVariants as stmt_kind
-use Rattle.fn_syntax.specs.declared.symbol.Binding.{Binding}
-use Rattle.fn_syntax.specs.declared.symbol.Binding.TheVariants as bind_kind
-use Rattle.fn_syntax.specs.declared.symbol.Symbol.{Symbol}
-use Rattle.fn_syntax.specs.declared.symbol.Symbol.TheVariants.{Fixed, Name, Param, Bound, Number, Text, Part, Make, Begin, End}
-use Rattle.fn_syntax.specs.Letters.{Letter, letters, fits}
-use Rattle.fn_syntax.specs.Trees.{Trees, no_trees, first, rest, onto, name, list, expr, expr_below, block, block_below, rhs, ask, bound, item_made, statement_made, binding_made, made}
-use Rattle.fn_syntax.specs.Derivation.{State, start, Derives, done, read, make, begin, end, by_rule, IsProgram, has, deeper, crowded, over, pushed, after_letter, after_make, after_begin, after_end}
+use Rattle.fn_grammar.specs.declared.symbol.Part.TheVariants as part
+use Rattle.fn_grammar.specs.declared.symbol.Action.{Action}
+use Rattle.fn_grammar.specs.declared.symbol.Action.TheVariants as act
+use Rattle.fn_grammar.specs.declared.symbol.Declaration.{Declaration}
+use Rattle.fn_grammar.specs.declared.symbol.Declaration.TheVariants as item_kind
+use Rattle.fn_grammar.specs.declared.symbol.Statement.{Statement}
+use Rattle.fn_grammar.specs.declared.symbol.Statement.TheVariants as stmt_kind
+use Rattle.fn_grammar.specs.declared.symbol.Binding.{Binding}
+use Rattle.fn_grammar.specs.declared.symbol.Binding.TheVariants as bind_kind
+use Rattle.fn_grammar.specs.declared.symbol.Symbol.{Symbol}
+use Rattle.fn_grammar.specs.declared.symbol.Symbol.TheVariants.{Fixed, Name, Param, Bound, Number, Text, Part, Make, Begin, End}
+use Rattle.fn_grammar.specs.Letters.{Letter, letters, fits}
+use Rattle.fn_grammar.specs.Trees.{Trees, no_trees, first, rest, onto, name, list, expr, expr_below, block, block_below, rhs, ask, bound, item_made, statement_made, binding_made, made}
+use Rattle.fn_grammar.specs.Derivation.{State, start, Derives, done, read, make, begin, end, by_rule, IsProgram, has, deeper, crowded, over, pushed, after_letter, after_make, after_begin, after_end}
 use Rattle.fn_syntax.proofs.DerivationLemmas.{and_left, and_right, and_both}
 use Rattle.fn_syntax.proofs.SupplyLemmas.{statement_takes, takes, enough, has_room, supplied, part_supplied, make_supplied, make_enough}
 use Rattle.fn_syntax.proofs.NameLemmas.{IsName, are_joined, IsNamed, IsBlock, block_named, let_named, set_named, do_named, put_named, delete_named, if_named, if_else_named, while_named, each_named, try_named, return_named, fail_named, block_more, item_names, item_few, named_item, passes_more, IsParams, HasRoom, IsOfText, are_of_text}

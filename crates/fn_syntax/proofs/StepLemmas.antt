@@ -2,14 +2,14 @@
 use Rattle.std.proofs.Common.{◌≡◌, suc, ◌+◌, ◌<◌, ◌≤◌, List, [], ◌∷◌, ◌++◌, Option, Some, None, Bool, true, false, refl, sym, ap, ◌∙◌, subst, inl, inr, ◌⊎◌, arith}
 use Rattle.std.specs.Prelude.{nat_lt, ◌||◌, if◌then◌else◌}
 use Rattle.std.proofs.lemmas.Bool.{ltb-true}
-use Rattle.fn_syntax.specs.declared.symbol.Action.{Action}
-use Rattle.fn_syntax.specs.declared.symbol.Part.{Part as Nonterminal}
-use Rattle.fn_syntax.specs.declared.symbol.Symbol.{Symbol}
-use Rattle.fn_syntax.specs.declared.symbol.Symbol.TheVariants.{Fixed, Name, Param, Bound, Number, Text, Part, Make, Begin, End}
-use Rattle.fn_syntax.specs.Letters.{Letter, fits}
-use Rattle.fn_syntax.specs.Grammar.{rules}
-use Rattle.fn_syntax.specs.Derivation.{State, Derives, done, read, make, begin, end, by_rule, over, after_letter, after_make, after_begin, after_end}
-use Rattle.fn_syntax.specs.Steps.{starts, chosen, Tame, input, Went, Refuses, Same, is_terminal, cost, weight, effort}
+use Rattle.fn_grammar.specs.declared.symbol.Action.{Action}
+use Rattle.fn_grammar.specs.declared.symbol.Part.{Part as Nonterminal}
+use Rattle.fn_grammar.specs.declared.symbol.Symbol.{Symbol}
+use Rattle.fn_grammar.specs.declared.symbol.Symbol.TheVariants.{Fixed, Name, Param, Bound, Number, Text, Part, Make, Begin, End}
+use Rattle.fn_grammar.specs.Letters.{Letter, fits}
+use Rattle.fn_grammar.specs.Grammar.{rules}
+use Rattle.fn_grammar.specs.Derivation.{State, Derives, done, read, make, begin, end, by_rule, over, after_letter, after_make, after_begin, after_end}
+use Rattle.fn_grammar.specs.Steps.{chosen, Tame, input, Went, Refuses, Same, is_terminal, cost, weight, effort}
 use Rattle.fn_syntax.proofs.TableLemmas.{is_led, is_light, rules_light}
 use Rattle.fn_syntax.proofs.DerivationLemmas.{inv_make, inv_begin, inv_end, inv_part, inv_read, inv_none, inv_done, sure, chosen_in, some_eq, every_one}
 
@@ -116,22 +116,3 @@ part_less p r todo next e = less_by p r todo (light_by (is_led r) (nat_lt (weigh
 
 pub pop_less : (s : Symbol) (todo : List Symbol) → (effort (s ∷ todo) ≡ suc (1 + weight todo)) → effort todo < effort (s ∷ todo)
 pop_less s todo h = omega (arith, effort_most todo, h)
-
--- its first symbol decides whether a rule may be taken
-pub starts_lead : (s : Symbol) (r : List Symbol) (next : Option Letter) → starts (s ∷ r) next ≡ starts (s ∷ []) next
-starts_lead (Fixed l) r None = refl
-starts_lead (Fixed l) r (Some x) = refl
-starts_lead Name r None = refl
-starts_lead Name r (Some x) = refl
-starts_lead Param r None = refl
-starts_lead Param r (Some x) = refl
-starts_lead Bound r None = refl
-starts_lead Bound r (Some x) = refl
-starts_lead Number r None = refl
-starts_lead Number r (Some x) = refl
-starts_lead Text r None = refl
-starts_lead Text r (Some x) = refl
-starts_lead (Part p) r next = refl
-starts_lead (Make a) r next = refl
-starts_lead Begin r next = refl
-starts_lead End r next = refl

@@ -1,20 +1,20 @@
 -- How many names stand on the stack: each rule leaves there what was there, but for what the part takes.
 use Rattle.std.proofs.Common.{◌≡◌, ℕ, suc, zero, List, [], ◌∷◌, ◌++◌, length, Bool, true, false, refl, ap, ◌∙◌, subst, inl, inr}
 use Rattle.std.specs.Prelude.{◌&&◌}
-use Rattle.fn_syntax.specs.declared.symbol.Part.{Part as Nonterminal}
-use Rattle.fn_syntax.specs.declared.symbol.Part.TheVariants as part
-use Rattle.fn_syntax.specs.declared.symbol.Action.{Action}
-use Rattle.fn_syntax.specs.declared.symbol.Action.TheVariants as act
-use Rattle.fn_syntax.specs.declared.symbol.Statement.{Statement}
-use Rattle.fn_syntax.specs.declared.symbol.Statement.TheVariants as stmt_kind
-use Rattle.fn_syntax.specs.declared.symbol.Binding.{Binding}
-use Rattle.fn_syntax.specs.declared.symbol.Binding.TheVariants as bind_kind
-use Rattle.fn_syntax.specs.declared.symbol.Declaration.TheVariants as item_kind
-use Rattle.fn_syntax.specs.declared.symbol.Symbol.{Symbol}
-use Rattle.fn_syntax.specs.declared.symbol.Symbol.TheVariants.{Name, Param, Part, Make}
-use Rattle.fn_syntax.specs.Grammar.{rules}
-use Rattle.fn_syntax.specs.Trees.{Trees, rest, made}
-use Rattle.fn_syntax.specs.Derivation.{IsOneOf}
+use Rattle.fn_grammar.specs.declared.symbol.Part.{Part as Nonterminal}
+use Rattle.fn_grammar.specs.declared.symbol.Part.TheVariants as part
+use Rattle.fn_grammar.specs.declared.symbol.Action.{Action}
+use Rattle.fn_grammar.specs.declared.symbol.Action.TheVariants as act
+use Rattle.fn_grammar.specs.declared.symbol.Statement.{Statement}
+use Rattle.fn_grammar.specs.declared.symbol.Statement.TheVariants as stmt_kind
+use Rattle.fn_grammar.specs.declared.symbol.Binding.{Binding}
+use Rattle.fn_grammar.specs.declared.symbol.Binding.TheVariants as bind_kind
+use Rattle.fn_grammar.specs.declared.symbol.Declaration.TheVariants as item_kind
+use Rattle.fn_grammar.specs.declared.symbol.Symbol.{Symbol}
+use Rattle.fn_grammar.specs.declared.symbol.Symbol.TheVariants.{Name, Param, Part, Make}
+use Rattle.fn_grammar.specs.Grammar.{rules}
+use Rattle.fn_grammar.specs.Trees.{Trees, rest, made}
+use Rattle.fn_grammar.specs.Derivation.{IsOneOf}
 use Rattle.fn_syntax.proofs.DerivationLemmas.{and_left, and_right, and_both}
 
 -- a name is taken from the stack

@@ -3,15 +3,15 @@ use Rattle.std.proofs.Common.{◌≡◌, ℕ, suc, zero, List, [], ◌∷◌, Bo
 use Rattle.std.specs.Prelude.{nat_le, nat_lt, ◌||◌, ◌&&◌, not, ◌==◌}
 use Rattle.std.specs.Str.{bytes_eq}
 use Rattle.std.proofs.lemmas.Bool.{le-leb, leb-true}
-use Rattle.fn_syntax.specs.declared.lexeme.Lexeme.{Lexeme}
-use Rattle.fn_syntax.specs.declared.lexeme.Lexeme.TheVariants as lex
-use Rattle.fn_syntax.specs.declared.symbol.Part.{Part as Nonterminal}
-use Rattle.fn_syntax.specs.declared.symbol.Part.TheVariants as part
-use Rattle.fn_syntax.specs.declared.symbol.Symbol.{Symbol}
-use Rattle.fn_syntax.specs.declared.symbol.Symbol.TheVariants.{Fixed, Name, Param, Bound, Number, Text, Part, Make, Begin, End}
-use Rattle.fn_syntax.specs.Letters.{spelled}
-use Rattle.fn_syntax.specs.Grammar.{rules}
-use Rattle.fn_syntax.specs.Steps.{rank, level, greedy, is_terminal, cost, weight}
+use Rattle.fn_grammar.specs.declared.lexeme.Lexeme.{Lexeme}
+use Rattle.fn_grammar.specs.declared.lexeme.Lexeme.TheVariants as lex
+use Rattle.fn_grammar.specs.declared.symbol.Part.{Part as Nonterminal}
+use Rattle.fn_grammar.specs.declared.symbol.Part.TheVariants as part
+use Rattle.fn_grammar.specs.declared.symbol.Symbol.{Symbol}
+use Rattle.fn_grammar.specs.declared.symbol.Symbol.TheVariants.{Fixed, Name, Param, Bound, Number, Text, Part, Make, Begin, End}
+use Rattle.fn_grammar.specs.Letters.{spelled}
+use Rattle.fn_grammar.specs.Grammar.{rules}
+use Rattle.fn_grammar.specs.Steps.{rank, level, greedy, is_terminal, cost, weight}
 
 -- the class of letters that a symbol is written as
 abbrev pub class_of : Symbol → ℕ

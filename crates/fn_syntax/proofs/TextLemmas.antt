@@ -11,7 +11,7 @@ use Rattle.fn_lex.specs.Bytes.{is_lower, is_digit, is_name_byte, is_plain, is_es
 use Rattle.fn_lex.specs.declared.span.TokenKind.{TokenKind}
 use Rattle.fn_lex.specs.declared.span.TokenKind.TheVariants as kind
 use Rattle.fn_lex.specs.Words.{is_reserved}
-use Rattle.fn_syntax.specs.Letters.{is_name}
+use Rattle.fn_grammar.specs.Letters.{is_name}
 use Rattle.fn_lex.specs.Lexemes.{is_lexeme, is_within, is_name_run, is_closed, is_quoted, denoted, denoted_from, escaped_byte}
 use Rattle.fn_syntax.proofs.DerivationLemmas.{and_left, and_right}
 

@@ -3,18 +3,18 @@ use Rattle.std.proofs.Common.{◌≡◌, ℕ, suc, zero, ◌<◌, ◌≤◌, Lis
 use Rattle.std.specs.Prelude.{codes}
 use Rattle.std.proofs.lemmas.Slice.Eq.{bytes_eq-Decides}
 use Rattle.fn_lex.specs.declared.span.TokenKind.TheVariants as kind
-use Rattle.fn_syntax.specs.declared.lexeme.Lexeme.TheVariants as lex
-use Rattle.fn_syntax.specs.declared.symbol.Action.TheVariants as act
-use Rattle.fn_syntax.specs.declared.symbol.Statement.TheVariants as stmt_kind
-use Rattle.fn_syntax.specs.declared.symbol.Binding.TheVariants as bind_kind
-use Rattle.fn_syntax.specs.declared.symbol.Part.{Part as Nonterminal}
-use Rattle.fn_syntax.specs.declared.symbol.Part.TheVariants as part
-use Rattle.fn_syntax.specs.declared.symbol.Symbol.{Symbol}
-use Rattle.fn_syntax.specs.declared.symbol.Symbol.TheVariants.{Fixed, Name, Param, Bound, Number, Text, Part, Make, Begin, End}
-use Rattle.fn_syntax.specs.Letters.{Letter, fits, spelled}
-use Rattle.fn_syntax.specs.Grammar.{rules}
-use Rattle.fn_syntax.specs.Derivation.{State, IsOneOf, Derives, done, read, make, begin, end, by_rule, after_letter, after_make, after_begin, after_end}
-use Rattle.fn_syntax.specs.Steps.{is_terminal}
+use Rattle.fn_grammar.specs.declared.lexeme.Lexeme.TheVariants as lex
+use Rattle.fn_grammar.specs.declared.symbol.Action.TheVariants as act
+use Rattle.fn_grammar.specs.declared.symbol.Statement.TheVariants as stmt_kind
+use Rattle.fn_grammar.specs.declared.symbol.Binding.TheVariants as bind_kind
+use Rattle.fn_grammar.specs.declared.symbol.Part.{Part as Nonterminal}
+use Rattle.fn_grammar.specs.declared.symbol.Part.TheVariants as part
+use Rattle.fn_grammar.specs.declared.symbol.Symbol.{Symbol}
+use Rattle.fn_grammar.specs.declared.symbol.Symbol.TheVariants.{Fixed, Name, Param, Bound, Number, Text, Part, Make, Begin, End}
+use Rattle.fn_grammar.specs.Letters.{Letter, fits, spelled}
+use Rattle.fn_grammar.specs.Grammar.{rules}
+use Rattle.fn_grammar.specs.Derivation.{State, IsOneOf, Derives, done, read, make, begin, end, by_rule, after_letter, after_make, after_begin, after_end}
+use Rattle.fn_grammar.specs.Steps.{is_terminal}
 
 -- some letters complete it
 abbrev pub Viable : List Symbol → State → Type 0

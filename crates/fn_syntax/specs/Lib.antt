@@ -1,8 +1,2 @@
-pub mod Letters
-pub mod Grammar
-pub mod Trees
-pub mod Derivation
-pub mod Place
-pub mod Steps
-pub mod Written
 pub mod Machine
+pub mod Texts

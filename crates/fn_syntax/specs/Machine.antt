@@ -1,12 +1,12 @@
 -- How the code holds the state, and what a step of the parser promises.
 use Rattle.std.specs.Prelude.{◌<◌, List, Option, Bool, true, false}
-use Rattle.fn_syntax.specs.declared.symbol.Symbol.{Symbol}
+use Rattle.fn_grammar.specs.declared.symbol.Symbol.{Symbol}
 use Rattle.fn_syntax.specs.declared.parser.Parser.{Parser}
 use Rattle.fn_syntax.specs.declared.trees.Trees.{Trees as Held}
-use Rattle.fn_syntax.specs.Trees.{Trees}
-use Rattle.fn_syntax.specs.Letters.{Letter}
-use Rattle.fn_syntax.specs.Derivation.{State}
-use Rattle.fn_syntax.specs.Steps.{AllTame, Same, Went, Refuses, effort}
+use Rattle.fn_grammar.specs.Trees.{Trees}
+use Rattle.fn_grammar.specs.Letters.{Letter}
+use Rattle.fn_grammar.specs.Derivation.{State}
+use Rattle.fn_grammar.specs.Steps.{AllTame, Same, Went, Refuses, effort}
 
 abbrev pub trees_of : Held → Trees
 trees_of t =

@@ -1,15 +1,15 @@
 //! What the actions of the grammar do.
 
 ghost use Rattle.std.specs.Prelude.{◌≡◌, ◌∷◌, ◌++◌, [], OnOk, IfOk};
-ghost use Rattle.fn_syntax.specs.Trees.{made};
+ghost use Rattle.fn_grammar.specs.Trees.{made};
 ghost use Rattle.fn_syntax.specs.Machine.{trees_of};
 
 use crate::bindings::make_binding;
 use crate::expressions::{add_expr, add_name, apply, list, one, two, variable};
 use crate::items::make_item;
 use crate::statements::make_statement;
-use crate::symbol::Action;
 use crate::trees::Trees;
+use fn_grammar::Action;
 use fn_tree::expr::Expr;
 use r3_value::Memory;
 use sqlite_items::Items;

@@ -1,12 +1,12 @@
 //! The trees of right sides, and of steps of workflows.
 
 ghost use Rattle.std.specs.Prelude.{◌≡◌, ◌∷◌, ◌++◌, [], OnOk, IfOk};
-ghost use Rattle.fn_syntax.specs.Trees.{binding_made};
+ghost use Rattle.fn_grammar.specs.Trees.{binding_made};
 ghost use Rattle.fn_syntax.specs.Machine.{trees_of};
 
 use crate::pops::{pop_ask, pop_expr, pop_group, pop_name};
-use crate::symbol::Binding;
 use crate::trees::Trees;
+use fn_grammar::Binding;
 use fn_tree::stmt::{Ask, Rhs};
 use r3_value::Memory;
 use std::alloc::Global;

@@ -1,12 +1,12 @@
 //! The trees of expressions, and of lists.
 
 ghost use Rattle.std.specs.Prelude.{◌≡◌, ◌∷◌, ◌++◌, [], OnOk, IfOk};
-ghost use Rattle.fn_syntax.specs.Trees.{made, node_of_two, node_of_one};
+ghost use Rattle.fn_grammar.specs.Trees.{made, node_of_two, node_of_one};
 ghost use Rattle.fn_syntax.specs.Machine.{trees_of};
 
 use crate::pops::{pop_expr, pop_group, pop_list, pop_name};
-use crate::symbol::{Action, Binary, Unary};
 use crate::trees::Trees;
+use fn_grammar::{Action, Binary, Unary};
 use fn_tree::expr::Expr;
 use r3_value::Memory;
 use sqlite_items::Boxed;

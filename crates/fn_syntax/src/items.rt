@@ -1,12 +1,12 @@
 //! The trees of items. Each is put behind the others.
 
 ghost use Rattle.std.specs.Prelude.{◌≡◌, ◌∷◌, ◌++◌, [], OnOk, IfOk};
-ghost use Rattle.fn_syntax.specs.Trees.{item_made};
+ghost use Rattle.fn_grammar.specs.Trees.{item_made};
 ghost use Rattle.fn_syntax.specs.Machine.{trees_of};
 
 use crate::pops::{pop_block, pop_bound, pop_expr, pop_list, pop_name};
-use crate::symbol::Declaration;
 use crate::trees::Trees;
+use fn_grammar::Declaration;
 use fn_tree::program::Item;
 use r3_value::Memory;
 use std::alloc::Global;

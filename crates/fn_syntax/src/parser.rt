@@ -2,23 +2,19 @@
 
 ghost use Rattle.std.specs.Prelude.{◌≡◌, ◌≤◌, ◌<◌, ◌+◌, ◌-◌, ◌∷◌, ◌++◌, [], length};
 ghost use Rattle.std.specs.Prelude.{IfOk, IfSome, OnOk, true, false, if◌then◌else◌};
-ghost use Rattle.fn_syntax.specs.Trees.{first};
-ghost use Rattle.fn_syntax.specs.Letters.{fits};
-ghost use Rattle.fn_syntax.specs.Derivation.{start, opens, closes, leads_item, has, deeper, crowded, over};
-ghost use Rattle.fn_syntax.specs.Derivation.{after_letter, depth_after, one_more};
-ghost use Rattle.fn_syntax.specs.Steps.{AllTame, is_terminal};
-ghost use Rattle.fn_syntax.specs.Written.{seen, seen_as, IsToken};
+ghost use Rattle.fn_grammar.specs.Trees.{first};
+ghost use Rattle.fn_grammar.specs.Letters.{fits};
+ghost use Rattle.fn_grammar.specs.Derivation.{start, opens, closes, leads_item, has, deeper, crowded, over};
+ghost use Rattle.fn_grammar.specs.Derivation.{after_letter, depth_after, one_more};
+ghost use Rattle.fn_grammar.specs.Steps.{AllTame, is_terminal};
+ghost use Rattle.fn_grammar.specs.Written.{seen, seen_as, IsToken};
 ghost use Rattle.fn_syntax.specs.Machine.{state_of, Spreads, Takes};
 
 use crate::actions::make;
-use crate::choice::choose;
-use crate::letter::{Letter, fits, is_terminal};
-use crate::lexeme::Lexeme;
-use crate::rules::rules;
 use crate::stack::Stack;
-use crate::symbol::{Part, Symbol};
 use crate::texts::push_letter;
 use crate::trees::{Trees, no_trees};
+use fn_grammar::{Letter, Lexeme, Part, Symbol, choose, fits, is_terminal, rules};
 use fn_tree::program::Item;
 use r3_value::Memory;
 use std::alloc::Global;

@@ -4,7 +4,7 @@ ghost use Rattle.std.specs.Prelude.{◌≡◌, ◌∷◌, ◌++◌, IfOk, OnOk, 
 ghost use Rattle.fn_tree.specs.declared.expr.Expr as tree;
 ghost use Rattle.fn_tree.specs.declared.stmt.Ask.TheVariants as step;
 ghost use Rattle.fn_tree.specs.declared.stmt.Rhs.TheVariants as right;
-ghost use Rattle.fn_syntax.specs.Trees.{first, rest, onto};
+ghost use Rattle.fn_grammar.specs.Trees.{first, rest, onto};
 
 use crate::stack::Stack;
 use fn_tree::expr::Expr;

@@ -5,13 +5,13 @@ ghost use Rattle.std.specs.Prelude.{nat_lt, true};
 ghost use Rattle.fn_lex.specs.Lexed.{Lexed};
 ghost use Rattle.fn_tree.specs.Soundness.{each_passes, are_names, names_in, params_of};
 ghost use Rattle.fn_tree.specs.declared.program.Item.{Item as Tree};
-ghost use Rattle.fn_syntax.specs.Letters.{letters};
-ghost use Rattle.fn_syntax.specs.Derivation.{IsProgram};
-ghost use Rattle.fn_syntax.specs.Place.{IsPlace};
+ghost use Rattle.fn_grammar.specs.Letters.{letters};
+ghost use Rattle.fn_grammar.specs.Derivation.{IsProgram};
+ghost use Rattle.fn_grammar.specs.Place.{IsPlace};
 
 use crate::fault::SyntaxError;
-use crate::letter::Letter;
 use crate::parser::Parser;
+use fn_grammar::Letter;
 use fn_lex::{Token, spans_are_slices};
 use fn_tree::program::Program;
 use std::alloc::Global;

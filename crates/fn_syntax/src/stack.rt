@@ -2,7 +2,7 @@
 
 ghost use Rattle.std.specs.Prelude.{◌≡◌, ◌∷◌, OnOk, [], MatchOption};
 ghost use Rattle.std.specs.Option.{option_copied};
-ghost use Rattle.fn_syntax.specs.Trees.{head};
+ghost use Rattle.fn_grammar.specs.Trees.{head};
 
 use r3_value::Memory;
 use std::alloc::Global;

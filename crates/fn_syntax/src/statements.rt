@@ -1,12 +1,12 @@
 //! The trees of statements. Each is put behind the others of its block.
 
 ghost use Rattle.std.specs.Prelude.{◌≡◌, ◌∷◌, ◌++◌, [], OnOk, IfOk};
-ghost use Rattle.fn_syntax.specs.Trees.{statement_made};
+ghost use Rattle.fn_grammar.specs.Trees.{statement_made};
 ghost use Rattle.fn_syntax.specs.Machine.{trees_of};
 
 use crate::pops::{add_stmt, pop_ask, pop_block, pop_expr, pop_name, pop_rhs};
-use crate::symbol::Statement;
 use crate::trees::Trees;
+use fn_grammar::Statement;
 use fn_tree::stmt::Stmt;
 use r3_value::Memory;
 use std::alloc::Global;

@@ -1,6 +1,7 @@
 use crate::fault::SyntaxError;
 use crate::program::parse;
 use fn_lex::{LexError, tokens};
+use fn_spell::spell;
 use fn_tree::program::Program;
 use std::alloc::Global;
 use std::test::Fail;
@@ -169,6 +170,85 @@ fn limits_are_met_at_their_edges(rt: HostRuntime) -> Result<(), Fail> {
             want,
             "{count} times {part}"
         );
+    }
+    Ok(())
+}
+
+#[test]
+fn sixty_four_brackets_are_open_at_once(rt: HostRuntime) -> Result<(), Fail> {
+    // how many parentheses stand in the braces, and where they are refused
+    for (count, want) in [(63, None), (64, Some(80))] {
+        let front = "(".repeat(rt.alloc(), count)?;
+        let end = ")".repeat(rt.alloc(), count)?;
+        let text = format!(in rt.alloc(); "txn f() {{ return {front}1{end}; }}")?;
+        assert_eq!(rt; place(rt.alloc(), text.as_str())?, want, "of {count}");
+    }
+    Ok(())
+}
+
+/// The spelling of a program, if it is parsed again to the same tree.
+fn respelled(alloc: Global, text: &str) -> Result<Option<Vec<u8>>, Fail> {
+    match read(alloc, text.as_bytes())? {
+        Answer::Parsed(program) => {
+            let bytes = spell(&program)?;
+            match read(alloc, bytes.as_slice())? {
+                Answer::Parsed(again) => {
+                    if again.same(&program) {
+                        Ok(Some(bytes))
+                    } else {
+                        Ok(None)
+                    }
+                }
+                _ => Ok(None),
+            }
+        }
+        _ => Ok(None),
+    }
+}
+
+#[test]
+fn a_bank_is_spelled_and_parsed_again(rt: HostRuntime) -> Result<(), Fail> {
+    let front = "table acct ; queue mail 1 ; outside notify ( who , n ) ; txn pay ( a , b , n ) { ";
+    match respelled(rt.alloc(), BANK)? {
+        Some(bytes) => assert!(rt;
+            bytes.as_slice().starts_with(front.as_bytes()),
+            "it begins so"
+        ),
+        None => assert!(rt; false, "it is the bank again"),
+    }
+    Ok(())
+}
+
+#[test]
+fn spellings_are_exact(rt: HostRuntime) -> Result<(), Fail> {
+    // a program, and its spelling
+    let cases = [
+        (
+            "helper h(a)=a+2*-a[0];",
+            "helper h ( a ) = ( a + ( 2 * ( - a [ 0 ] ) ) ) ; ",
+        ),
+        (
+            "helper h()=\"a\\\"b\\n\\\\\";",
+            "helper h ( ) = \"a\\\"b\\n\\\\\" ; ",
+        ),
+        (
+            "txn f(x){if len(x){}else{set x=[1,g(x)];}}",
+            "txn f ( x ) { if len ( x ) { } else { set x = [ 1 , g ( x ) ] ; } } ",
+        ),
+        (
+            "flow f(){do await \"c\";try{fail 1;}catch w{return !w&&true;}}",
+            "flow f ( ) { do await \"c\" ; try { fail 1 ; } catch w { return ( ( ! w ) && true ) ; } } ",
+        ),
+        (
+            "txn f(k){let r=scan t[k,k++str(1)];each x in r{delete t[x[0]];}}",
+            "txn f ( k ) { let r = scan t [ k , ( k ++ str ( 1 ) ) ] ; each x in r { delete t [ x [ 0 ] ] ; } } ",
+        ),
+    ];
+    for (text, want) in cases {
+        match respelled(rt.alloc(), text)? {
+            Some(bytes) => assert!(rt; bytes.as_slice() == want.as_bytes(), "of {text}"),
+            None => assert!(rt; false, "{text} is read again"),
+        }
     }
     Ok(())
 }

@@ -3,14 +3,14 @@
 ghost use Rattle.std.specs.Prelude.{ℕ, List, ◌≡◌, ◌∷◌, ◌++◌, ◌≤◌, false, length, IfOk, OnOk, IsTrue, true};
 ghost use Rattle.std.specs.Str.{IsAscii};
 ghost use Rattle.fn_lex.specs.Lexemes.{denoted, denoted_from, escaped_byte, is_quoted};
-ghost use Rattle.fn_syntax.specs.Letters.{fits, is_name};
-ghost use Rattle.fn_syntax.specs.Derivation.{pushed};
-ghost use Rattle.fn_syntax.specs.Written.{seen_as, closes_text, IsToken};
+ghost use Rattle.fn_grammar.specs.Letters.{fits, is_name};
+ghost use Rattle.fn_grammar.specs.Derivation.{pushed};
+ghost use Rattle.fn_grammar.specs.Written.{seen_as, IsToken};
 ghost use Rattle.fn_syntax.specs.Machine.{trees_of};
+ghost use Rattle.fn_syntax.specs.Texts.{closes_text};
 
-use crate::letter::{Letter, value};
-use crate::symbol::Symbol;
 use crate::trees::Trees;
+use fn_grammar::{Letter, Symbol, value};
 use fn_tree::expr::Expr;
 use r3_value::{Memory, Txt};
 use std::alloc::Global;

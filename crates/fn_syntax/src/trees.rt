@@ -1,7 +1,7 @@
 //! The trees of the parts that were read.
 
 ghost use Rattle.std.specs.Prelude.{◌≡◌};
-ghost use Rattle.fn_syntax.specs.Trees.{no_trees};
+ghost use Rattle.fn_grammar.specs.Trees.{no_trees};
 ghost use Rattle.fn_syntax.specs.Machine.{trees_of};
 
 use crate::stack::Stack;

@@ -5,9 +5,9 @@ use Rattle.fn_lex.specs.declared.span.Token.{Token}
 use Rattle.fn_lex.specs.Lexed.{Lexed}
 use Rattle.fn_tree.specs.declared.program.Item.{Item}
 use Rattle.fn_tree.specs.declared.program.Program.{Program}
-use Rattle.fn_syntax.specs.Letters.{letters}
-use Rattle.fn_syntax.specs.Derivation.{IsProgram}
-use Rattle.fn_syntax.specs.Place.{IsPlace}
+use Rattle.fn_grammar.specs.Letters.{letters}
+use Rattle.fn_grammar.specs.Derivation.{IsProgram}
+use Rattle.fn_grammar.specs.Place.{IsPlace}
 use Rattle.r3_load.specs.Texts.{Text}
 use Rattle.r3_cli.specs.declared.functions.FunctionsFault.{FunctionsFault}
 use Rattle.r3_cli.specs.declared.functions.FunctionsFault.TheVariants as faults

@@ -6,9 +6,9 @@ use Rattle.fn_lex.specs.declared.span.Token.{Token}
 use Rattle.fn_lex.specs.Lexed.{Lexed}
 use Rattle.fn_tree.specs.declared.program.Item.{Item}
 use Rattle.fn_tree.specs.Soundness.{IsSound}
-use Rattle.fn_syntax.specs.Letters.{letters}
-use Rattle.fn_syntax.specs.Derivation.{IsProgram}
-use Rattle.fn_syntax.specs.Place.{IsPlace}
+use Rattle.fn_grammar.specs.Letters.{letters}
+use Rattle.fn_grammar.specs.Derivation.{IsProgram}
+use Rattle.fn_grammar.specs.Place.{IsPlace}
 use Rattle.fn_check.specs.declared.fault.CheckKind.{CheckKind}
 use Rattle.fn_check.specs.declared.fault.CheckKind.TheVariants as kinds
 use Rattle.fn_check.specs.FirstFault.{first_fault}

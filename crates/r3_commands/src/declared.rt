@@ -1,6 +1,6 @@
 //! What a program declares.
 
-ghost use Rattle.std.specs.Prelude.{◌≡◌, [], ◌∷◌, filter_map, bytes_eq};
+ghost use Rattle.std.specs.Prelude.{◌≡◌, ◌≤◌, [], ◌∷◌, length, IsTrue, OnSome, filter_map, bytes_eq};
 ghost use Rattle.std.specs.List.{list_any};
 ghost use Rattle.fn_tree.specs.Declarations as declarations;
 ghost use Rattle.fn_tree.specs.Declarations.{any};
@@ -12,21 +12,24 @@ use fn_tree::program::Item;
 
 /// Whether the program declares a table of that name.
 pub fn has_table(program: &Checked, table: &str) -> bool
-    ensures { result ≡ (language_of program.now).has_table table.now }
+    ensures value { result ≡ (language_of program.now).has_table table.now }
+    ensures short { IsTrue result → length table.now ≤ 64 }
 {
     has_table_in(&program.program().items, table)
 }
 
 /// Whether the program declares a queue of that name.
 pub fn has_queue(program: &Checked, queue: &str) -> bool
-    ensures { result ≡ list_any (λ (q : Queue). bytes_eq q.name queue.now) (language_of program.now).queues }
+    ensures value { result ≡ list_any (λ (q : Queue). bytes_eq q.name queue.now) (language_of program.now).queues }
+    ensures short { IsTrue result → length queue.now ≤ 64 }
 {
     has_queue_in(&program.program().items, queue)
 }
 
 /// The number of parameters of the workflow of that name, if one is declared.
 pub fn arity(program: &Checked, function: &str) -> Option<usize>
-    ensures { result ≡ (language_of program.now).arity function.now }
+    ensures value { result ≡ (language_of program.now).arity function.now }
+    ensures short { OnSome result (length function.now ≤ 64) }
 {
     arity_in(&program.program().items, function)
 }

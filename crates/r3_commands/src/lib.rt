@@ -5,9 +5,17 @@
 //! room, and how it is appended, is left to the crates above.
 #![tactic(auto)]
 
+mod calls;
+mod changes;
 mod commands;
+mod counts;
 mod declared;
 mod drafts;
+mod enqueues;
+mod forks;
+mod loads;
+mod starts;
+mod texts;
 
 pub use commands::draft;
 pub use declared::{arity, has_queue, has_table};

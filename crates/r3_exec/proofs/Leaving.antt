@@ -21,6 +21,12 @@ module _ {D : Type 0} (may_leave : D → List ℕ → Type 0) (moment : D → �
         (x.1, (omega (arith, x.2), to, ⊎_elim (λ was. inr (was, x.2)) (λ all. inl all) x.0));
   }
 
+  -- disk calls alone, which leave what was settled
+  pub by_images_settled : (old new : D) (h : List Entry) (k : ℕ) → asked new ≡ asked old
+      → LeavesImage moment reach may_leave said asked old new (IsHistoryOf (take k h)) → Leaves moment reach said asked old new h k
+  by_images_settled old new h k same leaves =
+      by_images old new h k same (record { elapses = leaves.elapses; each = λ c n m r. let x = leaves.each c n m r in (inl x.0, x.1, x.2) })
+
   -- nothing was done
   pub quiet : (d : D) (h : List Entry) (k : ℕ)
       → ((t : ℕ) (c : List ℕ) → t ≤ moment d → may_leave d c → reach d t c (told_len (said d)) (told_len (asked d)))

@@ -1,4 +1,5 @@
 pub mod Begun
+pub mod Commanding
 pub mod Commits
 pub mod Dequeuing
 pub mod Doing
@@ -13,3 +14,4 @@ pub mod Parts
 pub mod Plain
 pub mod Rows
 pub mod Syncs
+pub mod Turnings

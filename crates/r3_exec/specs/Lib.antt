@@ -4,3 +4,4 @@ pub mod Does
 pub mod Fit
 pub mod Placed
 pub mod Entered
+pub mod Turning

@@ -17,6 +17,8 @@ mod reads;
 mod snapshots;
 mod stored;
 mod turn;
+mod turn_parts;
+mod turning;
 
 pub use ends::{CommandEnd, DequeueEnd, ExecFault, TurnEnd};
 pub use exec::Exec;

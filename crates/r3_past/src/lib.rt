@@ -6,9 +6,12 @@
 #![tactic(auto)]
 
 mod as_of;
+mod cells;
 mod past;
+mod step_rows;
 mod workflows;
 
 pub use as_of::AsOf;
-pub use past::Past;
-pub use workflows::{answers, flow_row, recorded, recorded_below, recorded_count, user_row};
+pub use past::{Past, view_is};
+pub use step_rows::{answers, recorded, recorded_below, recorded_count};
+pub use workflows::{flow_row, user_row};

@@ -6,7 +6,8 @@ ghost use Rattle.std.specs.List.{filter_map};
 ghost use Rattle.r3_entry.specs.declared.entry.Entry.{Entry};
 ghost use Rattle.r3_entry.specs.Formed.{IsFormed};
 ghost use Rattle.r3_entry.specs.History.{Map, map_at, seen_in};
-ghost use Rattle.r3_past.specs.Maps.{cell_in, version_in};
+ghost use Rattle.r3_model.specs.Rows.{view_at};
+ghost use Rattle.r3_past.specs.Maps.{cell_in, version_in, versions_in};
 
 use r3_rows::{Cell, Key};
 use r3_value::{Memory, Txt};
@@ -57,4 +58,11 @@ pub trait Past {
         requires lo { length lo.now ≤ 256 }
         requires hi { length hi.now ≤ 256 }
         ensures { IfOk result (λ keys. keys.items ≡ filter_map (seen_in table.now lo.now hi.now) (map self.now index)) };
+}
+
+/// What a transaction sees as of an index that may be read is what the plain machine shows it there.
+pub fn view_is<P: Past>(past: &P)
+    ensures { (h : List Entry) (k : ℕ) → P.stands past.now h → P.reads past.now k → versions_in (P.map past.now k) ≡ view_at h k }
+{
+    past.is_past();
 }

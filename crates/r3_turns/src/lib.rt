@@ -7,8 +7,10 @@
 
 mod awaits;
 mod children;
+mod laws;
 mod runs;
 
 pub use awaits::{AwaitDraft, await_draft};
 pub use children::child_draft;
+pub use laws::asks_what_is_there;
 pub use runs::{flow_end, txn_run};

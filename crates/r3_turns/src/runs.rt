@@ -18,10 +18,14 @@ ghost use Rattle.r3_model.specs.Functions.{language_of};
 ghost use Rattle.r3_model.specs.Rows.{answer_of, steps_at, view_at};
 ghost use Rattle.r3_model.specs.Turns as turn;
 
+use crate::laws::asks_what_is_there;
+use fn_flow::run_flow;
 use fn_tree::checked::Checked;
 use fn_tree::flow::{FlowEnd, Request};
 use fn_tree::look::TxnRun;
-use r3_past::Past;
+use fn_txn::run_txn;
+use r3_laws::programs_are_lawful;
+use r3_past::{AsOf, Past, answers, view_is};
 use r3_rows::FlowRow;
 use r3_steps::Steps;
 use r3_value::{Memory, Txt};
@@ -46,7 +50,10 @@ pub fn flow_end<P: Past, L: Ledger>(
         end steps.old steps.new) }
     ensures bound { OnOk result (steps.new ≤ steps.old + in_program program.now * 100001) }
 {
-    Err(Memory)
+    let told = answers(alloc, past, id)?;
+    let function = row.function.as_str();
+    let end = run_flow(alloc, program, function, &row.args, told.as_slice(), steps)?;
+    Ok(end)
 }
 
 /// What the body of a transaction gives on its snapshot, for a workflow whose run asked for it. Each
@@ -72,5 +79,17 @@ pub fn txn_run<P: Past, L: Ledger>(
     ensures rising { IfOk result (λ run. IsTrue (is_sorted key_cmp (map put_write run.writes))) }
     ensures bound { OnOk result (steps.new ≤ steps.old + in_program program.now * 100001) }
 {
-    Err(Memory)
+    asks_what_is_there();
+    programs_are_lawful();
+    view_is(past);
+    let view = AsOf::new(alloc, past, snap);
+    let run = run_txn(
+        alloc,
+        program,
+        request.name.as_str(),
+        &request.args,
+        &view,
+        steps,
+    )?;
+    Ok(run)
 }

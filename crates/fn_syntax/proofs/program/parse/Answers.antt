@@ -2,9 +2,9 @@ use Rattle.std.proofs.Common.{◌≡◌, length, Some, None, true, false, refl, 
 use Rattle.std.specs.Prelude.{slice_range, slice_index_or}
 use Rattle.fn_lex.specs.declared.span.Token.{Token}
 use Rattle.fn_lex.specs.declared.span.TokenKind.TheVariants as kind
-use Rattle.fn_syntax.specs.Letters.{letter, letters}
-use Rattle.fn_syntax.specs.Derivation.{IsProgram}
-use Rattle.fn_syntax.specs.Place.{IsPlace}
+use Rattle.fn_grammar.specs.Letters.{letter, letters}
+use Rattle.fn_grammar.specs.Derivation.{IsProgram}
+use Rattle.fn_grammar.specs.Place.{IsPlace}
 use Rattle.fn_syntax.specs.Machine.{state_of}
 use Rattle.fn_syntax.proofs.MachineLemmas.{takes_true, takes_false}
 use Rattle.fn_syntax.proofs.ParseLemmas.{ahead_start, start_tame, ahead_token, place_token, none_token, ahead_all, program_is, program_only, place_end, none_end, at_of}

@@ -1,6 +1,6 @@
 use Rattle.std.proofs.Common.{take}
-use Rattle.fn_syntax.specs.Letters.{letters}
-use Rattle.fn_syntax.specs.Steps.{AllTame}
+use Rattle.fn_grammar.specs.Letters.{letters}
+use Rattle.fn_grammar.specs.Steps.{AllTame}
 use Rattle.fn_syntax.proofs.ParseLemmas.{Ahead}
 use Rattle.fn_syntax.proofs.program.parse.Given as goal
 

@@ -1,6 +1,6 @@
 use Rattle.std.proofs.Common.{◌≡◌, Some, None, refl, ap, subst}
-use Rattle.fn_syntax.specs.Steps.{chosen}
-use Rattle.fn_syntax.specs.Written.{seen}
+use Rattle.fn_grammar.specs.Steps.{chosen}
+use Rattle.fn_grammar.specs.Written.{seen}
 use Rattle.fn_syntax.specs.Machine.{state_of}
 use Rattle.fn_syntax.proofs.MachineLemmas.{part_spreads, part_stops, make_spreads, begin_spreads, end_spreads}
 use Rattle.fn_syntax.proofs.parser.Parser.spread.Goals as goal

@@ -1,5 +1,5 @@
 use Rattle.std.proofs.Common.{refl}
-use Rattle.fn_syntax.specs.Written.{seen}
+use Rattle.fn_grammar.specs.Written.{seen}
 use Rattle.fn_syntax.specs.Machine.{state_of}
 use Rattle.fn_syntax.proofs.MachineLemmas.{step_done, step_take}
 use Rattle.fn_syntax.proofs.parser.Parser.step.Goals as goal

@@ -1,5 +1,5 @@
-use Rattle.fn_syntax.specs.Steps.{AllTame, Same, effort}
-use Rattle.fn_syntax.specs.Written.{seen}
+use Rattle.fn_grammar.specs.Steps.{AllTame, Same, effort}
+use Rattle.fn_grammar.specs.Written.{seen}
 use Rattle.fn_syntax.specs.Machine.{state_of}
 use Rattle.fn_syntax.proofs.parser.Parser.step.Given as goal
 

@@ -1,0 +1,11 @@
+pub mod SpacedLemmas
+pub mod NodeLemmas
+pub mod TokenLemmas
+pub mod ReadLemmas
+pub mod AtomLemmas
+pub mod StatementLemmas
+pub mod ItemLemmas
+pub mod WordLemmas
+pub mod SpaceLemmas
+pub mod LexLemmas
+pub mod Worked

@@ -1,8 +1,0 @@
-use Rattle.std.proofs.Common.{◌≡◌, drop}
-use Rattle.std.specs.Prelude.{map}
-use Rattle.fn_syntax.specs.Steps.{chosen}
-use Rattle.fn_syntax.specs.Written.{seen}
-use Rattle.fn_syntax.proofs.choice.choose.Given as goal
-
-abbrev pub invariant-loop-rule : goal.invariant-loop-rule
-invariant-loop-rule l = chosen (map (λ r. r.now) l.rules) (seen l.next) ≡ chosen (map (λ r. r.now) (drop l.rule-index l.rules)) (seen l.next)

@@ -1,0 +1,7 @@
+use Rattle.std.proofs.Common.{List, length}
+use Rattle.r3_entry.specs.declared.entry.Entry.{Entry}
+use Rattle.r3_past.proofs.Steps.{AreSome}
+use Rattle.r3_past.proofs.step_rows.recorded_count.Given as goal
+
+abbrev pub invariant-steps : goal.invariant-steps
+invariant-steps g l = (h : List Entry) → g.P.Past.stands l.past h → AreSome h (length h) l.id l.n
