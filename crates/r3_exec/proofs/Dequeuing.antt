@@ -15,17 +15,19 @@ use Rattle.sys_queue.specs.Index.{IsIndexOf}
 use Rattle.sys_queue.specs.declared.next.Next as rule
 use Rattle.sys_queue.specs.declared.next.Next.TheVariants as tells
 use Rattle.r3_model.specs.Acts.{dequeue_entry}
-use Rattle.r3_model.specs.Event.{AtLimit, Empty, EntryOf}
+use Rattle.r3_model.specs.Event.{AtLimit, Dequeue, Empty, EntryOf}
 use Rattle.r3_model.specs.Functions.{queue_of}
 use Rattle.r3_model.specs.Given.{Given, Answers, Enters}
-use Rattle.r3_model.specs.Language.{Queue, Text}
+use Rattle.r3_model.specs.Language.{Language, Queue, Text}
 use Rattle.r3_model.specs.Machine.{State}
 use Rattle.r3_model.specs.Queues.{Next, Ready, NoneWaits, Limited, dequeued, dequeued_from, dequeued_next, first_of, next_of, running, waiting}
 use Rattle.r3_model.specs.Rows.{Flow, flow_at, flows_at}
+use Rattle.r3_model.specs.Valid.{IsValid}
 use Rattle.r3_laws.specs.OfQueues.{IsSame, QueuesTell}
 use Rattle.r3_laws.proofs.CasesOf.{all-kept}
 use Rattle.r3_laws.proofs.Flows.{flows_at-there}
 use Rattle.r3_laws.proofs.TellsDequeue.{all-by_start, by_bound, find-passes, first-is}
+use Rattle.r3_exec.specs.Entered.{Gives}
 use Rattle.r3_exec.specs.Runs.{Stands, language, rows_now}
 use Rattle.r3_exec.specs.declared.exec.Exec.{Exec}
 
@@ -144,3 +146,14 @@ module _ (tell : QueuesTell) (exec : Exec) (st : State) (name : Text) (stands : 
       (r.0.row,
         subst (λ (i : Text). flow_at now (length now) i ≡ Some r.0.row) r.2 (there now t.0 r.0 r.1),
         subst (λ (i : Text). dequeued now (language exec) name ≡ Enters (dequeue_entry now i r.0.row) (EntryOf (length now + 1) i)) r.2 is)
+
+-- the entry that starts it is what the event gives
+pub starts : (P : Language) (st : State) (name id copy : Text) (row : FlowRow) (e : Entry) → IsValid P st
+    → dequeued st.history P name ≡ Enters (dequeue_entry st.history id row) (EntryOf (length st.history + 1) id) → e ≡ dequeue_entry st.history id row → copy ≡ id
+    → Gives P st (Dequeue name) None e (EntryOf (length st.history + 1) copy)
+starts P st name id copy row e valid is made same = record {
+  fits = valid.begins;
+  outcome = tt {0};
+  plain = ap (λ (x : Entry). x.snap) made;
+  given_is = is ∙ ap (λ (x : Entry). Enters x (EntryOf (length st.history + 1) id)) (sym made) ∙ ap (λ (i : Text). Enters e (EntryOf (length st.history + 1) i)) (sym same);
+}

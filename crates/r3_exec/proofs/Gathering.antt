@@ -1,6 +1,6 @@
 -- Rows in the order of their IDs are noted one after the other.
-use Rattle.std.proofs.Common.{◌≡◌, ◌≢◌, ℕ, ◌+◌, ◌<◌, ◌-◌, ◌^◌, List, [], ◌∷◌, ◌++◌, length, map, filter_map, Option, Some, None, refl, sym, ap, ◌∙◌, subst, arith}
-use Rattle.std.proofs.lemmas.List.{append-nil, append_assoc, length-append}
+use Rattle.std.proofs.Common.{◌≡◌, ◌≢◌, ℕ, ◌+◌, ◌<◌, ◌≤◌, ◌-◌, ◌^◌, List, [], ◌∷◌, ◌++◌, length, get_or, drop, map, filter_map, Option, Some, None, refl, sym, ap, ◌∙◌, subst, arith}
+use Rattle.std.proofs.lemmas.List.{append-nil, append_assoc, drop_all, drop_more, length-append}
 use Rattle.std.specs.Prelude.{T, IsTrue}
 use Rattle.std.specs.List.{AllByRecursion, cons_option}
 use Rattle.std.specs.FinMap.Entries.{is_sorted}
@@ -66,6 +66,12 @@ none_noted h ids lines places listed formed is in_queues in_pending = record {
 
 -- ---- one more
 
+-- the first of the IDs that are left
+pub with_first : (h : List Entry) (ids : List Text) (i : ℕ) (id : Text) (lines : List Line) (places : List Place) → i < length ids → id ≡ get_or ids i id
+    → IsGathered h (drop i ids) lines places → IsGathered h (id ∷ drop (i + 1) ids) lines places
+with_first h ids i id lines places lt is g =
+    subst (λ (left : List Text). IsGathered h left lines places) (drop_more ids i id lt ∙ ap (λ (x : Text). x ∷ drop (i + 1) ids) (sym is)) g
+
 abbrev Parts : Text → List Text → Rows → Type 0
 Parts id ids after = (row : FlowRow) × (rest : Rows) × (after ≡ (id, row) ∷ rest) × (ids ≡ map id_of rest)
 
@@ -127,10 +133,11 @@ none_left : (after : Rows) → [] ≡ map id_of after → after ≡ []
 none_left [] is = refl
 none_left (f ∷ fs) is = absurd cc
 
-pub all_noted : (h : List Entry) (lines : List Line) (places : List Place) → IsGathered h [] lines places
+pub all_noted : (h : List Entry) (ids : List Text) (i : ℕ) (lines : List Line) (places : List Place) → length ids ≤ i → IsGathered h (drop i ids) lines places
     → queues.IsIndexOf lines (rows_now h) × pending.IsIndexOf places (rows_now h)
-all_noted h lines places g =
-    let same : g.before ≡ rows_now h = sym (g.rows ∙ ap (λ (fs : Rows). g.before ++ fs) (none_left g.after g.left) ∙ append-nil g.before) in
+all_noted h ids i lines places le g =
+    let none : g.after ≡ [] = none_left g.after (sym (drop_all i ids le) ∙ g.left) in
+    let same : g.before ≡ rows_now h = sym (g.rows ∙ ap (λ (fs : Rows). g.before ++ fs) none ∙ append-nil g.before) in
     (subst (λ (rows : Rows). queues.IsIndexOf lines rows) same g.queues, subst (λ (rows : Rows). pending.IsIndexOf places rows) same g.pending)
 
 -- ---- what is taken up
