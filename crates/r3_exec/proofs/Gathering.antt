@@ -31,6 +31,9 @@ use Rattle.r3_exec.proofs.Few.{few_alone}
 abbrev id_of : Text × FlowRow → Text
 id_of f = f.0
 
+abbrev with_id : Flow → Text × FlowRow
+with_id f = (f.id, f.row)
+
 -- The first rows are noted, and these IDs are left.
 pub record IsGathered (h : List Entry) (ids : List Text) (lines : List Line) (places : List Place) : Type 0 where
   pub before : Rows
@@ -87,9 +90,8 @@ at_place : (h : List Entry) (fs : List Flow) (before rest : Rows) (id : Text) (r
 at_place h [] [] rest id row all is = absurd cc
 at_place h [] (b ∷ bs) rest id row all is = absurd cc
 at_place h (f ∷ fs) [] rest id row all is =
-    let same_id : f.id ≡ id = cc in
-    let same_row : f.row ≡ row = cc in
-    subst (λ (i : Text). flow_at h (length h) i ≡ Some row) same_id (all.0 ∙ ap (λ (r : FlowRow). Some r) same_row)
+    let same : with_id f ≡ (id, row) = cc in
+    subst (λ (i : Text). flow_at h (length h) i ≡ Some row) (ap id_of same) (all.0 ∙ ap (λ (p : Text × FlowRow). Some p.1) same)
 at_place h (f ∷ fs) (b ∷ bs) rest id row all is =
     let later : rows_of fs ≡ bs ++ (id, row) ∷ rest = cc in
     at_place h fs bs rest id row all.1 later
@@ -144,7 +146,7 @@ all_noted h ids i lines places le g =
 
 begins_too : (h h' : List Entry) → length h ≡ length h' → h ≢ [] → h' ≢ []
 begins_too [] h' same begins = absurd (begins refl)
-begins_too (e ∷ h) [] same begins = absurd cc
+begins_too (e ∷ h) [] same begins = absurd (omega (arith, same))
 begins_too (e ∷ h) (e' ∷ h') same begins = λ none. absurd cc
 
 pub taken_up : (exec : Exec) (h h' : List Entry) → store.Stands exec.store h → h ≢ [] → exec.store.pins ≡ [] → store.Stands exec.store h'
