@@ -91,12 +91,18 @@ shorter : (h : List Entry) (e : Entry) → record_sizes h ≤ record_sizes (h ++
 shorter [] e = omega arith
 shorter (x ∷ h) e = omega (arith, shorter h e)
 
-pub few_now : (h : List Entry) (e : Entry) → IsFormed (h ++ e ∷ []) → length (rows_now h) < 2 ^ 32 - 1
+few_by : (h : List Entry) → record_sizes h ≤ 2 ^ 30 → length (rows_now h) < 2 ^ 32 - 1
 unfolding IsAtMost
-few_now h e formed =
+few_by h small =
     let all = after_entries h 1 0 [] (omega arith, tt {0}) in
     let map_few : length (map_at h (length h)) ≤ record_sizes h =
         subst (λ (x : List Entry). length (fold after_entry [] (enumerate_from 1 x)) ≤ record_sizes h) (sym (take_all (length h) h (omega arith))) (omega (arith, all.0)) in
     let flows = fewer flow_seen (map_at h (length h)) in
     let mapped : length (rows_now h) ≡ length (flows_at h (length h)) = length-map {B = Text × FlowRow} (flows_at h (length h)) (λ (f : Flow). (f.id, f.row)) in
-    omega (arith, map_few, flows, mapped, shorter h e, formed.small)
+    omega (arith, map_few, flows, mapped, small)
+
+pub few_alone : (h : List Entry) → IsFormed h → length (rows_now h) < 2 ^ 32 - 1
+few_alone h formed = few_by h (omega (arith, formed.small))
+
+pub few_now : (h : List Entry) (e : Entry) → IsFormed (h ++ e ∷ []) → length (rows_now h) < 2 ^ 32 - 1
+few_now h e formed = few_by h (omega (arith, shorter h e, formed.small))

@@ -1,10 +1,12 @@
 pub mod Begun
 pub mod Commanding
 pub mod Commits
+pub mod Dequeuing
 pub mod Doing
 pub mod Entered
 pub mod Entering
 pub mod Few
+pub mod Gathering
 pub mod Leaving
 pub mod Maps
 pub mod Noting

@@ -77,16 +77,6 @@ fn add_queue(names: &mut Vec<Txt>, item: &Item) -> Result<(), Memory>
 impl Exec {
     ghost use Rattle.r3_exec.specs.Runs.{Stands, Runs, language};
 
-    /// Takes up a history that isn't empty. No snapshot is open, and none is pinned in the store.
-    pub fn new(alloc: Global, program: Checked, store: Store) -> Result<Exec, Memory>
-        requires { (h : List Entry) × StoreStands store h × (h ≢ []) × (store.pins ≡ []) }
-        ensures stands { (h : List Entry) → StoreStands store h → IfOk result (λ e. Stands e (restarted h)) }
-        ensures store { IfOk result (λ e. e.store ≡ store) }
-        ensures program { IfOk result (λ e. e.program ≡ program) }
-    {
-        Err(Memory)
-    }
-
     /// The number of entries.
     pub fn len(&self) -> u32
         ensures { (st : State) → Stands self.now st → result ≡ length st.history }

@@ -12,6 +12,7 @@ mod dequeue;
 mod ends;
 mod enter;
 mod exec;
+mod new;
 mod reads;
 mod snapshots;
 mod stored;
