@@ -93,7 +93,10 @@ fn flows_are_refused_at_their_first_fault(rt: HostRuntime) -> Result<(), Fail> {
     ];
     for (name, called, args, want) in cases {
         let (at, kind) = fault(alloc, flow(alloc, name, called, args)?)?;
-        assert!(rt; at == 3 && kind == want, "flow {name} calls {called}({args})");
+        assert!(rt;
+            at == 3 && kind == want,
+            "flow {name} calls {called}({args})"
+        );
     }
     let (at, _) = fault(alloc, flow(alloc, "f", "notify", "m")?)?;
     assert_eq!(rt; at, 0);

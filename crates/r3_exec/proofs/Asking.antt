@@ -38,5 +38,5 @@ module _ {D : Type 0} (may_leave : D → List ℕ → Type 0) (moment : D → �
       leaves_then moment reach may_leave said asked first mid last _ _ _ one two
       (λ c n m x. (x.0, (x.1.0, omega (arith, x.1.1, later), x.1.2)))
       (λ c n m y.
-        let all : IsHistoryOf (take (length h) h) c → IsHistoryOf h c = λ t. subst (λ (l : List Entry). IsHistoryOf l c) (take_all (length h) h (omega arith)) t in
-        (y.0 ∙ ap told_len same, (omega (arith, y.1.0, more), y.1.1, inl (⊎_elim (λ is. is) (λ t. all t.0) y.1.2))))
+      let all : IsHistoryOf (take (length h) h) c → IsHistoryOf h c = λ t. subst (λ (l : List Entry). IsHistoryOf l c) (take_all (length h) h (omega arith)) t in
+      (y.0 ∙ ap told_len same, (omega (arith, y.1.0, more), y.1.1, inl (⊎_elim (λ is. is) (λ t. all t.0) y.1.2))))

@@ -30,10 +30,10 @@ one_more pins begun id s sorted none pinned n =
     let f = is_one n in
     let looked : lookup (is_at (bytes_cmp id)) begun ≡ None = found_is bytes_cmp id begun ∙ none in
     let more : sum_by f (values_of (insert_entry bytes_cmp begun id s)) + unwrap_or (option_map f (lookup (is_at (bytes_cmp id)) begun)) 0 ≡ sum_by f (values_of begun) + f s =
-        sum_by-insert_entry f nat_list_cmp_total begun id s sorted in
+    sum_by-insert_entry f nat_list_cmp_total begun id s sorted in
     let nothing : unwrap_or (option_map f (lookup (is_at (bytes_cmp id)) begun)) 0 ≡ 0 = ap (λ (o : Option ℕ). unwrap_or (option_map f o) 0) looked in
     let same : sum_by f (values_of (insert_entry bytes_cmp begun id s)) ≡ sum_by f (values_of (put bytes_cmp id s begun)) =
-        ap (λ (es : Begun). sum_by f (values_of es)) (insert_put bytes_cmp id s begun) in
+    ap (λ (es : Begun). sum_by f (values_of es)) (insert_put bytes_cmp id s begun) in
     let pins_more : sum_by f (pins ++ s ∷ []) ≡ sum_by f pins + sum_by f (s ∷ []) = sum_by-append f pins (s ∷ []) in
     let alone : sum_by f (s ∷ []) ≡ 0 + f s = refl in
     omega (arith, more, nothing, same, pins_more, alone, pinned n)
@@ -105,7 +105,7 @@ found_counts begun id s n found =
     let f = is_one n in
     let looked : lookup (is_at (bytes_cmp id)) begun ≡ Some s = found_is bytes_cmp id begun ∙ found in
     let counted : sum_by f (values_of (remove_entry (is_at (bytes_cmp id)) begun)) + unwrap_or (option_map f (lookup (is_at (bytes_cmp id)) begun)) 0 ≡ sum_by f (values_of begun) =
-        sum_by-remove_entry f (is_at (bytes_cmp id)) begun in
+    sum_by-remove_entry f (is_at (bytes_cmp id)) begun in
     let one : unwrap_or (option_map f (lookup (is_at (bytes_cmp id)) begun)) 0 ≡ f s = ap (λ (o : Option ℕ). unwrap_or (option_map f o) 0) looked in
     omega (arith, counted, one)
 
@@ -119,7 +119,7 @@ one_less pins pins' begun id s sorted found moved pinned n =
     let f = is_one n in
     let counts = found_counts begun id s n found in
     let same : sum_by f (values_of (remove_entry (is_at (bytes_cmp id)) begun)) ≡ sum_by f (values_of (closed id begun)) =
-        ap (λ (es : Begun). sum_by f (values_of es)) (removed id begun sorted) in
+    ap (λ (es : Begun). sum_by f (values_of es)) (removed id begun sorted) in
     let moves : sum_by f (s ∷ pins') ≡ sum_by f pins = sum_by-IsPermutation f pins (s ∷ pins') moved in
     omega (arith, counts, same, moves, first_counts f s pins', pinned n)
 

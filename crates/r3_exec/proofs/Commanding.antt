@@ -30,7 +30,7 @@ load_fits : (P : Language) (h : List Entry) (table : Text) (rows : List (Text ×
     → IsGiven (Load table rows) → commanded P h (Load table rows) ≡ Enters e r → IsFit (Load table rows)
 load_fits P h table rows e r named given_is is =
     elim (P.has_table table) as (λ b. P.has_table table ≡ b
-        → unless ((not b, refusals.UnknownTable) ∷ []) (Enters (load_entry h table rows) (reply.Entry (length h + 1))) ≡ Enters e r → IsFit (Load table rows)) [
+    → unless ((not b, refusals.UnknownTable) ∷ []) (Enters (load_entry h table rows) (reply.Entry (length h + 1))) ≡ Enters e r → IsFit (Load table rows)) [
       | true ↦ λ has i. (named table has, given_is.0, given_is.1, given_is.2)
       | false ↦ λ has i. refused _ e r i
     ] refl is

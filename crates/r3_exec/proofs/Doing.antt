@@ -55,7 +55,7 @@ module _ {D : Type 0} (size : D → Option ℕ) (image : D → Option (List ℕ)
   by_answer desk exec st k ev answer r reply runs is same none reply_is =
       let P = language exec in
       let came_is : came st ev (given P st.history ev (snap_of st.begun ev) answer) ≡ (st, r) =
-          ap (λ (g : Given). came st ev g) is ∙ ap (λ (b : Begun). (record { history = st.history; begun = b }, r)) same in
+      ap (λ (g : Given). came st ev g) is ∙ ap (λ (b : Begun). (record { history = st.history; begun = b }, r)) same in
       record {
         calls = [];
         after = st;

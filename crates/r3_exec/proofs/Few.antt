@@ -64,7 +64,7 @@ after_writes [] j n m most = (omega (arith, most.0), most.1)
 after_writes (w ∷ ws) j n m most =
     let longer = length-put key_cmp key_cmp-total w.0 (j, w.1) m most.1 in
     let next : IsAtMost (put key_cmp w.0 (j, w.1) m) (n + 1) =
-        (omega (arith, most.0, one_more (is_some (find key_cmp w.0 m)) (length (put key_cmp w.0 (j, w.1) m)) (length m) longer), is_sorted-put key_cmp key_cmp-total w.0 (j, w.1) m most.1) in
+    (omega (arith, most.0, one_more (is_some (find key_cmp w.0 m)) (length (put key_cmp w.0 (j, w.1) m)) (length m) longer), is_sorted-put key_cmp key_cmp-total w.0 (j, w.1) m most.1) in
     let rest = after_writes ws j (n + 1) (put key_cmp w.0 (j, w.1) m) next in
     (omega (arith, rest.0), rest.1)
 
@@ -96,7 +96,7 @@ unfolding IsAtMost
 few_by h small =
     let all = after_entries h 1 0 [] (omega arith, tt {0}) in
     let map_few : length (map_at h (length h)) ≤ record_sizes h =
-        subst (λ (x : List Entry). length (fold after_entry [] (enumerate_from 1 x)) ≤ record_sizes h) (sym (take_all (length h) h (omega arith))) (omega (arith, all.0)) in
+    subst (λ (x : List Entry). length (fold after_entry [] (enumerate_from 1 x)) ≤ record_sizes h) (sym (take_all (length h) h (omega arith))) (omega (arith, all.0)) in
     let flows = fewer flow_seen (map_at h (length h)) in
     let mapped : length (rows_now h) ≡ length (flows_at h (length h)) = length-map {B = Text × FlowRow} (flows_at h (length h)) (λ (f : Flow). (f.id, f.row)) in
     omega (arith, map_few, flows, mapped, small)

@@ -46,7 +46,7 @@ module _ (tell : RowsTell) (follow : RowsFollow) where
       → HasEntered old h e begun → IsChange h e.writes (Some (id, before))
       → new.program ≡ old.program → new.store ≡ old.store → new.begun ≡ old.begun → declared_of new.queues ≡ declared_of old.queues
       → ((row : FlowRow) → flow_at (h ++ e ∷ []) (length (h ++ e ∷ [])) id ≡ Some row
-        → queues.Follows old.queues new.queues id before row × pending.Follows old.pending new.pending id before row)
+      → queues.Follows old.queues new.queues id before row × pending.Follows old.pending new.pending id before row)
       → Keeps new (h ++ e ∷ []) begun
   noted_some old new h e begun id before entered change program store_same begun_same declared follows =
       let c = changed_now tell follow h e id (follows_last h e entered.store.formed) entered.one_flow change.0 in

@@ -117,7 +117,7 @@ module _ (tell : RowsTell) (follow : RowsFollow) where
         one.0,
         rows,
         sym (find_now (h ++ e ∷ []) id) ∙ ap (λ (rs : Rows). find bytes_cmp id rs) rows ∙ find-put bytes_cmp nat_list_cmp_total id id one.0 (rows_now h)
-        ∙ ap (λ (b : Bool). cond b (Some one.0) (find bytes_cmp id (rows_now h))) (tie_self id),
+            ∙ ap (λ (b : Bool). cond b (Some one.0) (find bytes_cmp id (rows_now h))) (tie_self id),
       )
 
   -- the ID of a workflow whose row is written is short

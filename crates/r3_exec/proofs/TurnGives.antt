@@ -50,6 +50,6 @@ module _ (P : Language) (st : State) (id : Text) where
       → stepped P st (Turn id) None ≡ record { state = st; reply = reply.Again; calls = record { id = id; n = q.n; name = q.name; args = q.args; answer = None } ∷ [] }
   fails q comes =
       let came_is : came st (Turn id) (given P st.history (Turn id) (snap_of st.begun (Turn id)) None) ≡ (st, reply.Again) =
-          ap (λ (x : Given). came st (Turn id) x) (comes.0 (snap_of st.begun (Turn id)) None) in
+      ap (λ (x : Given). came st (Turn id) x) (comes.0 (snap_of st.begun (Turn id)) None) in
       ap (λ (x : State × reply.Reply). record { state = x.0; reply = x.1; calls = calls_of P st.history (Turn id) None }) came_is
       ∙ ap (λ (cs : List Call). record { state = st; reply = reply.Again; calls = cs }) (one_call None q comes.1)

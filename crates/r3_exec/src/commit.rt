@@ -145,7 +145,7 @@ impl Exec {
             × (declared_of self.new.queues ≡ declared_of self.old.queues) }
         ensures noted { (h : List E) (row : Row) → StoreStands self.old.store h → flow_at h (length h) id.now ≡ Some row →
             OnOk result (queue.Follows self.old.queues self.new.queues id.now (option_copied old.entry) row
-                × running.Follows self.old.pending self.new.pending id.now (option_copied old.entry) row) }
+            × running.Follows self.old.pending self.new.pending id.now (option_copied old.entry) row) }
     {
         let stored = Stored::of(&self.store);
         match flow_row(alloc, &stored, id.as_str())? {

@@ -19,7 +19,9 @@ use crate::exec::Exec;
 use r3_desk::Desk;
 use r3_entry::{Act, Entry};
 use r3_gate::Limit;
-use r3_laws::{enters_light, enters_what_follows, keeps_valid, programs_are_lawful, programs_are_limited};
+use r3_laws::{
+    enters_light, enters_what_follows, keeps_valid, programs_are_lawful, programs_are_limited,
+};
 use r3_store::{holds_in_memory, may_follow, reads_as_settled};
 use r3_value::{Memory, Txt};
 use std::alloc::Global;

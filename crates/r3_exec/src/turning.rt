@@ -44,7 +44,7 @@ impl Exec {
         requires kind { request.now.kind ≡ AskKind.Child }
         ensures { IfOk result (λ t. (h : List E) → StoreStands self.now.store h →
             Comes (language self.now) h id.now (λ snap answer. asked (language self.now) h id.now snap answer request.now.kind request.now)
-                (asks_outside (language self.now) h id.now (FlowEnd.Asks request.now)) t) }
+            (asks_outside (language self.now) h id.now (FlowEnd.Asks request.now)) t) }
     {
         let entry = child_draft(alloc, self, id, request)?;
         Ok(Turning::Enters(entry))
@@ -56,7 +56,7 @@ impl Exec {
         requires kind { request.now.kind ≡ AskKind.Await }
         ensures { IfOk result (λ t. (h : List E) → StoreStands self.now.store h →
             Comes (language self.now) h id.now (λ snap answer. asked (language self.now) h id.now snap answer request.now.kind request.now)
-                (asks_outside (language self.now) h id.now (FlowEnd.Asks request.now)) t) }
+            (asks_outside (language self.now) h id.now (FlowEnd.Asks request.now)) t) }
     {
         match await_draft(alloc, self, id, request) {
             Ok(AwaitDraft::Waiting { id }) => Ok(Turning::Waiting { id }),
@@ -71,7 +71,7 @@ impl Exec {
         requires asked { IsAsked (language self.now) request }
         ensures { IfOk result (λ t. (h : List E) → StoreStands self.now.store h →
             Comes (language self.now) h id.now (λ snap answer. asked (language self.now) h id.now snap answer request.kind request)
-                (asks_outside (language self.now) h id.now (FlowEnd.Asks request)) t) }
+            (asks_outside (language self.now) h id.now (FlowEnd.Asks request)) t) }
     {
         match request.kind {
             AskKind::Txn => Ok(Turning::Commits(request)),

@@ -56,7 +56,7 @@ returns-in-Ok-record_turn-clause-does g c = λ st k runs called.
     let o = c.in-Ok.outcome in
     let call : Call = record { id = id; n = q.n; name = q.name; args = q.args; answer = Some o } in
     let asked_runs : Runs g.D.Desk.size g.D.Desk.image g.D.Desk.may_leave c.ask.new.self c.args.self.now st (length st.history) =
-        record { stands = runs.stands; holds = c.holds_beside_the_disk.ensures c.args.desk.now c.ask.new.self c.args.self.now.store st.history (length st.history) c.ask.ensures.same_size c.ask.ensures.image c.ask.ensures.pending runs.holds } in
+    record { stands = runs.stands; holds = c.holds_beside_the_disk.ensures c.args.desk.now c.ask.new.self c.args.self.now.store st.history (length st.history) c.ask.ensures.same_size c.ask.ensures.image c.ask.ensures.pending runs.holds } in
     let rec = c.in-Ok-record_turn.ensures.recorded st (length st.history) asked_runs called in
     let after = state_after st rec.entry rec.entered in
     record {
@@ -78,14 +78,14 @@ returns-in-Ok-record_turn-clause-does g c = λ st k runs called.
 pub returns-in-Ok-record_turn-clause-reads : goal.returns-in-Ok-record_turn-clause-reads
 returns-in-Ok-record_turn-clause-reads g c = λ st runs image told.
     let asked_runs : Runs g.D.Desk.size g.D.Desk.image g.D.Desk.may_leave c.ask.new.self c.args.self.now st (length st.history) =
-        record { stands = runs.stands; holds = c.holds_beside_the_disk.ensures c.args.desk.now c.ask.new.self c.args.self.now.store st.history (length st.history) c.ask.ensures.same_size c.ask.ensures.image c.ask.ensures.pending runs.holds } in
+    record { stands = runs.stands; holds = c.holds_beside_the_disk.ensures c.args.desk.now c.ask.new.self c.args.self.now.store st.history (length st.history) c.ask.ensures.same_size c.ask.ensures.image c.ask.ensures.pending runs.holds } in
     ⊎_elim (λ all. all) (λ t. subst (λ (l : List Entry). IsHistoryOf l image) (take_all (length st.history) st.history (omega arith)) t)
     (c.record_turn.ensures.reads st (length st.history) asked_runs image told)
 
 pub returns-in-Err-clause-reads : goal.returns-in-Err-clause-reads
 returns-in-Err-clause-reads g c = λ st runs image told.
     let asked_runs : Runs g.D.Desk.size g.D.Desk.image g.D.Desk.may_leave c.ask.new.self c.args.self.now st (length st.history) =
-        record { stands = runs.stands; holds = c.holds_beside_the_disk.ensures c.args.desk.now c.ask.new.self c.args.self.now.store st.history (length st.history) c.ask.ensures.same_size c.ask.ensures.image c.ask.ensures.pending runs.holds } in
+    record { stands = runs.stands; holds = c.holds_beside_the_disk.ensures c.args.desk.now c.ask.new.self c.args.self.now.store st.history (length st.history) c.ask.ensures.same_size c.ask.ensures.image c.ask.ensures.pending runs.holds } in
     ⊎_elim (λ all. all) (λ t. subst (λ (l : List Entry). IsHistoryOf l image) (take_all (length st.history) st.history (omega arith)) t)
     (c.record_turn.ensures.reads st (length st.history) asked_runs image told)
 
@@ -101,22 +101,21 @@ returns-in-Err-Memory-clause-reads g c = λ st runs image told.
     subst (λ (l : List Entry). IsHistoryOf l image) (take_all (length st.history) st.history (omega arith))
     (c.reads_as_settled.ensures.read c.ask.new.self c.args.self.now.store st.history (length st.history) image holds told)
 
-
 pub returns-in-Ok-record_turn-clause-crash : goal.returns-in-Ok-record_turn-clause-crash
 returns-in-Ok-record_turn-clause-crash g c = λ st runs.
     let h = st.history in
     let q = c.args.request.now in
     let call : Call = record { id = c.args.id.now; n = q.n; name = q.name; args = q.args; answer = Some c.in-Ok.outcome } in
     let asked_runs : Runs g.D.Desk.size g.D.Desk.image g.D.Desk.may_leave c.ask.new.self c.args.self.now st (length h) =
-        record { stands = runs.stands; holds = c.holds_beside_the_disk.ensures c.args.desk.now c.ask.new.self c.args.self.now.store h (length h) c.ask.ensures.same_size c.ask.ensures.image c.ask.ensures.pending runs.holds } in
+    record { stands = runs.stands; holds = c.holds_beside_the_disk.ensures c.args.desk.now c.ask.new.self c.args.self.now.store h (length h) c.ask.ensures.same_size c.ask.ensures.image c.ask.ensures.pending runs.holds } in
     let told : g.D.Desk.asked c.ask.new.self ≡ told_after (g.D.Desk.asked c.args.desk.now) (call ∷ []) =
-        told_as (g.D.Desk.asked c.args.desk.now) (g.D.Desk.asked c.ask.new.self) c.args.id.now c.as_str.result.now q.n q.name c.as_str-2.result.now q.args c.ask.result (Ok c.in-Ok.outcome)
-        c.ask.ensures.asked c.as_str.ensures.text c.as_str-2.ensures.text c.in-Ok.is in
+    told_as (g.D.Desk.asked c.args.desk.now) (g.D.Desk.asked c.ask.new.self) c.args.id.now c.as_str.result.now q.n q.name c.as_str-2.result.now q.args c.ask.result (Ok c.in-Ok.outcome)
+    c.ask.ensures.asked c.as_str.ensures.text c.as_str-2.ensures.text c.in-Ok.is in
     leaves_on g.D.Desk.may_leave g.D.Desk.moment g.D.Desk.reach g.D.Desk.said g.D.Desk.asked c.args.desk.now c.ask.new.self c.record_turn.new.desk h (length h) c.ask.ensures.said
     (subst (λ (o : Option (List desk.Call)). told_len (g.D.Desk.asked c.args.desk.now) ≤ told_len o) (sym told) (told_more (g.D.Desk.asked c.args.desk.now) (call ∷ [])))
     (subst (λ (o : Option (List desk.Call)). told_len (g.D.Desk.asked c.ask.new.self) ≤ told_len o) (sym c.record_turn.ensures.asked) (omega arith))
     (by_ask g.D.Desk.may_leave g.D.Desk.moment g.D.Desk.reach g.D.Desk.said g.D.Desk.asked c.args.desk.now c.ask.new.self h c.ask.ensures.time c.ask.ensures.said
-      (λ image was. subst (λ (l : List Entry). IsHistoryOf l image) (take_all (length h) h (omega arith)) (c.reads_as_settled.ensures.crash c.args.desk.now c.args.self.now.store h (length h) image runs.holds was)) c.ask.ensures.pending)
+    (λ image was. subst (λ (l : List Entry). IsHistoryOf l image) (take_all (length h) h (omega arith)) (c.reads_as_settled.ensures.crash c.args.desk.now c.args.self.now.store h (length h) image runs.holds was)) c.ask.ensures.pending)
     (c.record_turn.ensures.crash st (length h) asked_runs)
 
 pub returns-in-Err-clause-crash : goal.returns-in-Err-clause-crash
@@ -125,15 +124,15 @@ returns-in-Err-clause-crash g c = λ st runs.
     let q = c.args.request.now in
     let call : Call = record { id = c.args.id.now; n = q.n; name = q.name; args = q.args; answer = Some c.in-Ok.outcome } in
     let asked_runs : Runs g.D.Desk.size g.D.Desk.image g.D.Desk.may_leave c.ask.new.self c.args.self.now st (length h) =
-        record { stands = runs.stands; holds = c.holds_beside_the_disk.ensures c.args.desk.now c.ask.new.self c.args.self.now.store h (length h) c.ask.ensures.same_size c.ask.ensures.image c.ask.ensures.pending runs.holds } in
+    record { stands = runs.stands; holds = c.holds_beside_the_disk.ensures c.args.desk.now c.ask.new.self c.args.self.now.store h (length h) c.ask.ensures.same_size c.ask.ensures.image c.ask.ensures.pending runs.holds } in
     let told : g.D.Desk.asked c.ask.new.self ≡ told_after (g.D.Desk.asked c.args.desk.now) (call ∷ []) =
-        told_as (g.D.Desk.asked c.args.desk.now) (g.D.Desk.asked c.ask.new.self) c.args.id.now c.as_str.result.now q.n q.name c.as_str-2.result.now q.args c.ask.result (Ok c.in-Ok.outcome)
-        c.ask.ensures.asked c.as_str.ensures.text c.as_str-2.ensures.text c.in-Ok.is in
+    told_as (g.D.Desk.asked c.args.desk.now) (g.D.Desk.asked c.ask.new.self) c.args.id.now c.as_str.result.now q.n q.name c.as_str-2.result.now q.args c.ask.result (Ok c.in-Ok.outcome)
+    c.ask.ensures.asked c.as_str.ensures.text c.as_str-2.ensures.text c.in-Ok.is in
     leaves_on g.D.Desk.may_leave g.D.Desk.moment g.D.Desk.reach g.D.Desk.said g.D.Desk.asked c.args.desk.now c.ask.new.self c.record_turn.new.desk h (length h) c.ask.ensures.said
     (subst (λ (o : Option (List desk.Call)). told_len (g.D.Desk.asked c.args.desk.now) ≤ told_len o) (sym told) (told_more (g.D.Desk.asked c.args.desk.now) (call ∷ [])))
     (subst (λ (o : Option (List desk.Call)). told_len (g.D.Desk.asked c.ask.new.self) ≤ told_len o) (sym c.record_turn.ensures.asked) (omega arith))
     (by_ask g.D.Desk.may_leave g.D.Desk.moment g.D.Desk.reach g.D.Desk.said g.D.Desk.asked c.args.desk.now c.ask.new.self h c.ask.ensures.time c.ask.ensures.said
-      (λ image was. subst (λ (l : List Entry). IsHistoryOf l image) (take_all (length h) h (omega arith)) (c.reads_as_settled.ensures.crash c.args.desk.now c.args.self.now.store h (length h) image runs.holds was)) c.ask.ensures.pending)
+    (λ image was. subst (λ (l : List Entry). IsHistoryOf l image) (take_all (length h) h (omega arith)) (c.reads_as_settled.ensures.crash c.args.desk.now c.args.self.now.store h (length h) image runs.holds was)) c.ask.ensures.pending)
     (c.record_turn.ensures.crash st (length h) asked_runs)
 
 pub returns-in-Err-Fault-clause-crash : goal.returns-in-Err-Fault-clause-crash
@@ -154,8 +153,8 @@ returns-in-Err-clause-early g c = λ st runs called.
     let q = c.args.request.now in
     let call : Call = record { id = c.args.id.now; n = q.n; name = q.name; args = q.args; answer = Some c.in-Ok.outcome } in
     let told : g.D.Desk.asked c.ask.new.self ≡ told_after (g.D.Desk.asked c.args.desk.now) (call ∷ []) =
-        told_as (g.D.Desk.asked c.args.desk.now) (g.D.Desk.asked c.ask.new.self) c.args.id.now c.as_str.result.now q.n q.name c.as_str-2.result.now q.args c.ask.result (Ok c.in-Ok.outcome)
-        c.ask.ensures.asked c.as_str.ensures.text c.as_str-2.ensures.text c.in-Ok.is in
+    told_as (g.D.Desk.asked c.args.desk.now) (g.D.Desk.asked c.ask.new.self) c.args.id.now c.as_str.result.now q.n q.name c.as_str-2.result.now q.args c.ask.result (Ok c.in-Ok.outcome)
+    c.ask.ensures.asked c.as_str.ensures.text c.as_str-2.ensures.text c.in-Ok.is in
     let calls = one_call (language c.args.self.now) st c.args.id.now (Some c.in-Ok.outcome) q called.1 in
     (Some c.in-Ok.outcome, 1, c.record_turn.ensures.asked ∙ told ∙ ap (λ (cs : List Call). told_after (g.D.Desk.asked c.args.desk.now) (take 1 cs)) (sym calls))
 
@@ -163,6 +162,6 @@ pub returns-in-Err-Memory-clause-early : goal.returns-in-Err-Memory-clause-early
 returns-in-Err-Memory-clause-early g c = λ st runs called.
     let q = c.args.request.now in
     let told : g.D.Desk.asked c.ask.new.self ≡ g.D.Desk.asked c.args.desk.now =
-        told_as (g.D.Desk.asked c.args.desk.now) (g.D.Desk.asked c.ask.new.self) c.args.id.now c.as_str.result.now q.n q.name c.as_str-2.result.now q.args c.ask.result (Err asks.Memory)
-        c.ask.ensures.asked c.as_str.ensures.text c.as_str-2.ensures.text (c.in-Err-Memory.is ∙ ap (λ (f : AskFault). Err f) c.in-Err-Memory.field-0-is) in
+    told_as (g.D.Desk.asked c.args.desk.now) (g.D.Desk.asked c.ask.new.self) c.args.id.now c.as_str.result.now q.n q.name c.as_str-2.result.now q.args c.ask.result (Err asks.Memory)
+    c.ask.ensures.asked c.as_str.ensures.text c.as_str-2.ensures.text (c.in-Err-Memory.is ∙ ap (λ (f : AskFault). Err f) c.in-Err-Memory.field-0-is) in
     (None, 0, told ∙ told_none (g.D.Desk.asked c.args.desk.now))

@@ -17,8 +17,13 @@ pub ask_turn-requires : goal.ask_turn-requires
 ask_turn-requires g c =
     let x = c.requires.runs in
     let st = x.0 in
-    record { called = (st, c.in-Ok.ensures.settled st x.1 x.2,
-      subst (λ (items : List Item). IsCalled (language_of items) st c.args.id.now c.args.request.now) (sym c.settle.ensures.program) (c.requires.comes st.history x.2.stands.keeps.store)); }
+    record {
+      called = (
+        st,
+        c.in-Ok.ensures.settled st x.1 x.2,
+        subst (λ (items : List Item). IsCalled (language_of items) st c.args.id.now c.args.request.now) (sym c.settle.ensures.program) (c.requires.comes st.history x.2.stands.keeps.store),
+      );
+    }
 
 pub returns-in-Ok-ask_turn-clause-does : goal.returns-in-Ok-ask_turn-clause-does
 returns-in-Ok-ask_turn-clause-does g c = λ st k runs.

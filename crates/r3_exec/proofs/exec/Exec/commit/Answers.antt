@@ -11,11 +11,11 @@ returns-in-Err-Full-clause-full g c = λ h begun k l keeping same.
     let is : c.in-Err-Full.limit ≡ l = cc in
     let e = c.in-Err-Full.ensures in (
       full_is h c.args.entry c.in-Err-Full.limit
-      (λ at. e.entries h keeping.keeps.store (ap (λ (x : CommitFault). Err x) (c.in-Err-Full.field-0-is ∙ ap (λ (x : Room). faults.Full x) at)))
-      (λ at. e.bytes h k keeping.holds (ap (λ (x : CommitFault). Err x) (c.in-Err-Full.field-0-is ∙ ap (λ (x : Room). faults.Full x) at)))
-      ∙ ap (λ (x : Room). Some (limit_of x)) is,
+          (λ at. e.entries h keeping.keeps.store (ap (λ (x : CommitFault). Err x) (c.in-Err-Full.field-0-is ∙ ap (λ (x : Room). faults.Full x) at)))
+          (λ at. e.bytes h k keeping.holds (ap (λ (x : CommitFault). Err x) (c.in-Err-Full.field-0-is ∙ ap (λ (x : Room). faults.Full x) at)))
+          ∙ ap (λ (x : Room). Some (limit_of x)) is,
       (let u = e.unchanged (λ at. absurd cc) in
-      still g.D.Desk.size g.D.Desk.image g.D.Desk.may_leave _ _ c.args.self.now c.commit.new.self h begun k keeping u.0 u.1),
+          still g.D.Desk.size g.D.Desk.image g.D.Desk.may_leave _ _ c.args.self.now c.commit.new.self h begun k keeping u.0 u.1),
     )
 
 pub returns-in-Err-Conflict-clause-conflict : goal.returns-in-Err-Conflict-clause-conflict

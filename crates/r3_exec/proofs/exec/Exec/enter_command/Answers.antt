@@ -14,18 +14,27 @@ enter-requires g c =
     let x = c.requires.runs in
     let items = c.args.self.now.program in
     let r = reply_of (length x.0.history + 1) c.args.id in
-    record { gives = (x.0, x.1, Run c.args.command.now, None, r, x.2,
-    gives (language c.args.self.now) x.0 c.args.command.now c.args.entry r
-    (λ (t : Text). table-named items (all-named items c.program.ensures.sound c.holds_values.ensures) t)
-    x.2.stands.valid c.requires.given (sym (c.requires.drafted x.0.history x.2.stands.keeps.store))); }
+    record {
+      gives = (
+        x.0,
+        x.1,
+        Run c.args.command.now,
+        None,
+        r,
+        x.2,
+        gives (language c.args.self.now) x.0 c.args.command.now c.args.entry r
+            (λ (t : Text). table-named items (all-named items c.program.ensures.sound c.holds_values.ensures) t)
+            x.2.stands.valid c.requires.given (sym (c.requires.drafted x.0.history x.2.stands.keeps.store)),
+      );
+    }
 
 pub returns-in-Ok-clause-does : goal.returns-in-Ok-clause-does
 returns-in-Ok-clause-does g c = λ st k runs.
     let items = c.args.self.now.program in
     let r = reply_of (length st.history + 1) c.args.id in
     let does = gives (language c.args.self.now) st c.args.command.now c.args.entry r
-        (λ (t : Text). table-named items (all-named items c.program.ensures.sound c.holds_values.ensures) t)
-        runs.stands.valid c.requires.given (sym (c.requires.drafted st.history runs.stands.keeps.store)) in
+    (λ (t : Text). table-named items (all-named items c.program.ensures.sound c.holds_values.ensures) t)
+    runs.stands.valid c.requires.given (sym (c.requires.drafted st.history runs.stands.keeps.store)) in
     let come = c.in-Ok.ensures.come st k (Run c.args.command.now) None r runs does in
     by_entry g.D.Desk.size g.D.Desk.image g.D.Desk.may_leave g.D.Desk.asked g.D.Desk.syncs _ _ c.args.self.now c.enter.new.self st k (Run c.args.command.now) None c.args.entry r c.in-Ok.entered _
     come refl c.enter.ensures.asked c.enter.ensures.syncs c.enter.ensures.program (c.command_end.ensures st.history come.number)

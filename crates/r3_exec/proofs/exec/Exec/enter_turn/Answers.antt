@@ -9,8 +9,17 @@ use Rattle.r3_exec.proofs.exec.Exec.enter_turn.Goals as goal
 pub enter-requires : goal.enter-requires
 enter-requires g c =
     let x = c.requires.runs in
-    record { gives = (x.0, x.1, Turn c.args.id.now, None, reply.Entry (length x.0.history + 1), x.2,
-      of_entry (language c.args.self.now) x.0 c.args.id.now c.args.entry (c.requires.comes x.0.history x.2.stands.keeps.store)); }
+    record {
+      gives = (
+        x.0,
+        x.1,
+        Turn c.args.id.now,
+        None,
+        reply.Entry (length x.0.history + 1),
+        x.2,
+        of_entry (language c.args.self.now) x.0 c.args.id.now c.args.entry (c.requires.comes x.0.history x.2.stands.keeps.store),
+      );
+    }
 
 pub returns-in-Ok-clause-does : goal.returns-in-Ok-clause-does
 returns-in-Ok-clause-does g c = λ st k runs.

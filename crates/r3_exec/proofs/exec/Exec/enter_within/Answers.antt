@@ -46,7 +46,7 @@ close_of-requires g c =
     let x = c.requires.gives in
     let follows = may (language c.args.self.now) x.0 x.2 x.3 c.args.entry x.4 x.6 (c.programs_are_lawful.ensures c.args.self.now.program) c.enters_what_follows.ensures.follows x.5.stands.valid in
     let p = subst (λ (o : Placed). IsPlaced g.D.Desk.size g.D.Desk.image g.D.Desk.may_leave c.place.new.desk c.place.new.self x.0.history x.0.begun x.1 c.args.entry o) c.in-Ok-Number.field-0-is
-        (c.in-Ok-Number.ensures.placed x.0.history x.0.begun x.1 (record { keeps = x.5.stands.keeps; holds = x.5.holds }) (c.may_follow.ensures x.0.history c.args.entry follows)) in
+    (c.in-Ok-Number.ensures.placed x.0.history x.0.begun x.1 (record { keeps = x.5.stands.keeps; holds = x.5.holds }) (c.may_follow.ensures x.0.history c.args.entry follows)) in
     (x.0.history ++ c.args.entry ∷ [], x.0.begun, p.2.keeps)
 
 pub unreachable-requires : goal.unreachable-requires
@@ -65,7 +65,7 @@ returns-in-Ok-Number-clause-come g c = λ st k ev answer r runs gives.
     let limited = c.programs_are_limited.ensures items c.program.ensures.sound c.holds_values.ensures in
     let follows = may P st ev answer e r gives lawful c.enters_what_follows.ensures.follows runs.stands.valid in
     let p = subst (λ (o : Placed). IsPlaced g.D.Desk.size g.D.Desk.image g.D.Desk.may_leave c.place.new.desk c.place.new.self st.history st.begun k e o) c.in-Ok-Number.field-0-is
-        (c.in-Ok-Number.ensures.placed st.history st.begun k (record { keeps = runs.stands.keeps; holds = runs.holds }) (c.may_follow.ensures st.history e follows)) in
+    (c.in-Ok-Number.ensures.placed st.history st.begun k (record { keeps = runs.stands.keeps; holds = runs.holds }) (c.may_follow.ensures st.history e follows)) in
     let step = step_number P st ev answer e r gives c.in-Ok-Number.number p.1 in
     let after = state_after st e (ends.Number c.in-Ok-Number.number) in
     let closed = ap (λ (o : Option Text). after_closing o st.begun) c.requires.closing ∙ closes e.act st.begun in
@@ -88,7 +88,7 @@ returns-in-Ok-Full-clause-come g c = λ st k ev answer r runs gives.
     let lawful = c.programs_are_lawful.ensures c.args.self.now.program in
     let follows = may P st ev answer e r gives lawful c.enters_what_follows.ensures.follows runs.stands.valid in
     let p = subst (λ (o : Placed). IsPlaced g.D.Desk.size g.D.Desk.image g.D.Desk.may_leave c.place.new.desk c.place.new.self st.history st.begun k e o) c.in-Ok-Full.field-0-is
-        (c.in-Ok-Full.ensures.placed st.history st.begun k (record { keeps = runs.stands.keeps; holds = runs.holds }) (c.may_follow.ensures st.history e follows)) in
+    (c.in-Ok-Full.ensures.placed st.history st.begun k (record { keeps = runs.stands.keeps; holds = runs.holds }) (c.may_follow.ensures st.history e follows)) in
     record {
       number = tt {0};
       step = step_full P st ev answer e r gives c.in-Ok-Full.limit p.0;

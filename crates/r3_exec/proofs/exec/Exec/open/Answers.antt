@@ -17,14 +17,16 @@ returns-clause-opened c = λ h begun keeps none.
     let id = c.args.id.now in
     let es = c.args.self.now.begun.entries in
     let snap = c.len-snap.result in
-    let sorted = subst (λ (x : Begun). IsStrictlySortedBy bytes_cmp (keys_of x)) keeps.snapshots c.insert.ensures.was_ordered in
-    (c.len-snap.ensures h keeps.store, record {
-      store = c.hold.ensures.keeps h keeps.store;
-      snapshots = c.in-Ok.ensures.entries ∙ insert_put bytes_cmp c.in_ok-id.id snap es
-          ∙ ap (λ (i : Text). opened i snap es) c.in_ok-id.ensures ∙ ap (λ (x : Begun). opened id snap x) keeps.snapshots;
-      in_order = is_sorted-put bytes_cmp nat_list_cmp_total id snap begun keeps.in_order;
-      pins = subst (λ (ps : List ℕ). ArePinned ps (opened id snap begun)) (sym c.in_ok-hold.ensures.ok) (one_more c.args.self.now.store.pins begun id snap sorted none keeps.pins);
-      declared = keeps.declared;
-      queues = keeps.queues;
-      pending = keeps.pending;
-    })
+    let sorted = subst (λ (x : Begun). IsStrictlySortedBy bytes_cmp (keys_of x)) keeps.snapshots c.insert.ensures.was_ordered in (
+      c.len-snap.ensures h keeps.store,
+      record {
+        store = c.hold.ensures.keeps h keeps.store;
+        snapshots = c.in-Ok.ensures.entries ∙ insert_put bytes_cmp c.in_ok-id.id snap es
+            ∙ ap (λ (i : Text). opened i snap es) c.in_ok-id.ensures ∙ ap (λ (x : Begun). opened id snap x) keeps.snapshots;
+        in_order = is_sorted-put bytes_cmp nat_list_cmp_total id snap begun keeps.in_order;
+        pins = subst (λ (ps : List ℕ). ArePinned ps (opened id snap begun)) (sym c.in_ok-hold.ensures.ok) (one_more c.args.self.now.store.pins begun id snap sorted none keeps.pins);
+        declared = keeps.declared;
+        queues = keeps.queues;
+        pending = keeps.pending;
+      },
+    )

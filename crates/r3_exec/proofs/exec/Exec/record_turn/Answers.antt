@@ -11,15 +11,24 @@ enter-requires g c =
     let x = c.requires.called in
     let st = x.0 in
     let store = x.2.stands.keeps.store in
-    record { gives = (st, x.1, Turn c.args.id.now, Some c.args.outcome, reply.Entry (length st.history + 1), x.2,
-      of_answer (language c.args.self.now) st c.args.id.now c.args.request.now c.args.outcome c.in-Ok.entry c.is_outcome.ensures
-      (c.in-Ok.ensures st.history (sym (c.len.ensures st.history store))) x.3); }
+    record {
+      gives = (
+        st,
+        x.1,
+        Turn c.args.id.now,
+        Some c.args.outcome,
+        reply.Entry (length st.history + 1),
+        x.2,
+        of_answer (language c.args.self.now) st c.args.id.now c.args.request.now c.args.outcome c.in-Ok.entry c.is_outcome.ensures
+            (c.in-Ok.ensures st.history (sym (c.len.ensures st.history store))) x.3,
+      );
+    }
 
 pub returns-in-Ok-enter-clause-recorded : goal.returns-in-Ok-enter-clause-recorded
 returns-in-Ok-enter-clause-recorded g c = λ st k runs called.
     let store = runs.stands.keeps.store in
     let gives = of_answer (language c.args.self.now) st c.args.id.now c.args.request.now c.args.outcome c.in-Ok.entry c.is_outcome.ensures
-        (c.in-Ok.ensures st.history (sym (c.len.ensures st.history store))) called in
+    (c.in-Ok.ensures st.history (sym (c.len.ensures st.history store))) called in
     let come = c.in-Ok-enter.ensures.come st k (Turn c.args.id.now) (Some c.args.outcome) (reply.Entry (length st.history + 1)) runs gives in
     record { entry = c.in-Ok.entry; entered = c.in-Ok-enter.entered; come = come; reply_is = c.turn_end.ensures.reply st.history come.number }
 
