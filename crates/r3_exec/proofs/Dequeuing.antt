@@ -1,7 +1,7 @@
 -- What the queues tell is what a dequeue comes to.
-use Rattle.std.proofs.Common.{◌≡◌, ℕ, ◌+◌, Bool, true, false, cond, ◌&&◌, ◌||◌, List, [], ◌∷◌, length, map, filter_map, Option, Some, None, refl, sym, ap, ◌∙◌, subst}
+use Rattle.std.proofs.Common.{◌≡◌, ℕ, ◌+◌, Bool, true, false, cond, ◌||◌, List, [], ◌∷◌, length, filter_map, Option, Some, None, refl, sym, ap, ◌∙◌, subst}
 use Rattle.std.specs.Prelude.{IsTrue, find, nat_le}
-use Rattle.std.specs.List.{AllByRecursion, list_any}
+use Rattle.std.specs.List.{list_any}
 use Rattle.std.specs.Option.{option_map}
 use Rattle.std.specs.Str.{bytes_eq}
 use Rattle.std.proofs.lemmas.Slice.Eq.{bytes_eq-Decides}
@@ -17,10 +17,10 @@ use Rattle.sys_queue.specs.declared.next.Next.TheVariants as tells
 use Rattle.r3_model.specs.Acts.{dequeue_entry}
 use Rattle.r3_model.specs.Event.{AtLimit, Dequeue, Empty, EntryOf}
 use Rattle.r3_model.specs.Functions.{queue_of}
-use Rattle.r3_model.specs.Given.{Given, Answers, Enters}
+use Rattle.r3_model.specs.Given.{Answers, Enters}
 use Rattle.r3_model.specs.Language.{Language, Queue, Text}
 use Rattle.r3_model.specs.Machine.{State}
-use Rattle.r3_model.specs.Queues.{Next, Ready, NoneWaits, Limited, dequeued, dequeued_from, dequeued_next, first_of, next_of, running, waiting}
+use Rattle.r3_model.specs.Queues.{Next, Ready, NoneWaits, Limited, dequeued, dequeued_from, dequeued_next, next_of, running, waiting}
 use Rattle.r3_model.specs.Rows.{Flow, flow_at, flows_at}
 use Rattle.r3_model.specs.Valid.{IsValid}
 use Rattle.r3_laws.specs.OfQueues.{IsSame, QueuesTell}
@@ -87,7 +87,7 @@ declared_is exec st name stands any =
     let f = any_found (is_named name) (language exec).queues any in
     let by_name = ap (find (is_called name)) stands.keeps.declared in
     let l = line_by (line_of name exec.queues) (of_queue f.0)
-        (line_declared name exec.queues ∙ by_name ∙ sym (queue_declared name exec.program) ∙ ap (λ (o : Option Queue). option_map of_queue o) f.1) in
+    (line_declared name exec.queues ∙ by_name ∙ sym (queue_declared name exec.program) ∙ ap (λ (o : Option Queue). option_map of_queue o) f.1) in
     (f.0, l.0, f.1, l.1, (bytes_eq-Decides f.0.name name).0 (find-passes (is_named name) (language exec).queues f.0 f.1), l.2)
 
 -- ---- the rule and the machine say the same
@@ -127,9 +127,11 @@ module _ (tell : QueuesTell) (exec : Exec) (st : State) (name : Text) (stands : 
       → (q : Queue) × (dequeued now (language exec) name ≡ dequeued_next now (next_of q (flows_at now (length now)))) × IsSame (next_of q (flows_at now (length now))) n
   told n is_told =
       let d = declared_is exec st name stands any in
-      let here = is_told (rows_now now) d.1 stands.keeps.queues d.3 in
-      (d.0, ap (λ (o : Option Queue). dequeued_from now o) d.2,
-        tell now (length now) d.0 n (subst (λ (b : ℕ). Tells (rows_now now) d.0.name b n) d.5 (subst (λ (t : Text). Tells (rows_now now) t d.1.bound n) (sym d.4) here)))
+      let here = is_told (rows_now now) d.1 stands.keeps.queues d.3 in (
+        d.0,
+        ap (λ (o : Option Queue). dequeued_from now o) d.2,
+        tell now (length now) d.0 n (subst (λ (b : ℕ). Tells (rows_now now) d.0.name b n) d.5 (subst (λ (t : Text). Tells (rows_now now) t d.1.bound n) (sym d.4) here)),
+      )
 
   pub at_limit : (m : ℕ) → IsTold exec name (tells.Limit m) → dequeued now (language exec) name ≡ Answers (AtLimit m)
   at_limit m is_told = let t = told (tells.Limit m) is_told in t.1 ∙ ap (λ (x : Next). dequeued_next now x) (limited _ m t.2)
@@ -142,10 +144,11 @@ module _ (tell : QueuesTell) (exec : Exec) (st : State) (name : Text) (stands : 
   next_is id is_told =
       let t = told (tells.Ready id) is_told in
       let r = ready (next_of t.0 (flows_at now (length now))) id t.2 in
-      let is : dequeued now (language exec) name ≡ Enters (dequeue_entry now r.0.id r.0.row) (EntryOf (length now + 1) r.0.id) = t.1 ∙ ap (λ (x : Next). dequeued_next now x) r.1 in
-      (r.0.row,
+      let is : dequeued now (language exec) name ≡ Enters (dequeue_entry now r.0.id r.0.row) (EntryOf (length now + 1) r.0.id) = t.1 ∙ ap (λ (x : Next). dequeued_next now x) r.1 in (
+        r.0.row,
         subst (λ (i : Text). flow_at now (length now) i ≡ Some r.0.row) r.2 (there now t.0 r.0 r.1),
-        subst (λ (i : Text). dequeued now (language exec) name ≡ Enters (dequeue_entry now i r.0.row) (EntryOf (length now + 1) i)) r.2 is)
+        subst (λ (i : Text). dequeued now (language exec) name ≡ Enters (dequeue_entry now i r.0.row) (EntryOf (length now + 1) i)) r.2 is,
+      )
 
 -- the entry that starts it is what the event gives
 pub starts : (P : Language) (st : State) (name id copy : Text) (row : FlowRow) (e : Entry) → IsValid P st

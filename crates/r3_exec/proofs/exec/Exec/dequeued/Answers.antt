@@ -1,4 +1,4 @@
-use Rattle.std.proofs.Common.{◌≡◌, Option, Some, sym, ap, ◌∙◌}
+use Rattle.std.proofs.Common.{◌≡◌, Option, sym, ap, ◌∙◌}
 use Rattle.std.specs.Option.{is_some}
 use Rattle.sys_queue.specs.Lines.{Line}
 use Rattle.r3_model.specs.Given.{Answers}
@@ -18,7 +18,7 @@ pub start_of-requires : goal.start_of-requires
 start_of-requires c =
     let x = c.requires.stands in
     let r = next_is c.queues_tell.ensures c.args.self.now x.0 c.args.queue.now x.1 c.requires.declared c.in-Ready.id c.in-Ready.ensures in
-    record { there = (x.0.history, r.0, x.1.keeps.store, r.1); }
+    record { there = (x.0.history, r.0, x.1.keeps.store, r.1) }
 
 pub returns-in_ok-entry-in-Ready-clause-starts : goal.returns-in_ok-entry-in-Ready-clause-starts
 returns-in_ok-entry-in-Ready-clause-starts c = λ st entry id stands same.
