@@ -1,7 +1,7 @@
 -- What the queues tell is what a dequeue comes to.
-use Rattle.std.proofs.Common.{◌≡◌, ℕ, ◌+◌, Bool, true, false, cond, ◌&&◌, ◌||◌, List, [], ◌∷◌, length, map, filter_map, Option, Some, None, refl, sym, ap, ◌∙◌, subst}
+use Rattle.std.proofs.Common.{◌≡◌, ℕ, ◌+◌, Bool, true, false, cond, ◌||◌, List, [], ◌∷◌, length, filter_map, Option, Some, None, refl, sym, ap, ◌∙◌, subst}
 use Rattle.std.specs.Prelude.{IsTrue, find, nat_le}
-use Rattle.std.specs.List.{AllByRecursion, list_any}
+use Rattle.std.specs.List.{list_any}
 use Rattle.std.specs.Option.{option_map}
 use Rattle.std.specs.Str.{bytes_eq}
 use Rattle.std.proofs.lemmas.Slice.Eq.{bytes_eq-Decides}
@@ -17,10 +17,10 @@ use Rattle.sys_queue.specs.declared.next.Next.TheVariants as tells
 use Rattle.r3_model.specs.Acts.{dequeue_entry}
 use Rattle.r3_model.specs.Event.{AtLimit, Dequeue, Empty, EntryOf}
 use Rattle.r3_model.specs.Functions.{queue_of}
-use Rattle.r3_model.specs.Given.{Given, Answers, Enters}
+use Rattle.r3_model.specs.Given.{Answers, Enters}
 use Rattle.r3_model.specs.Language.{Language, Queue, Text}
 use Rattle.r3_model.specs.Machine.{State}
-use Rattle.r3_model.specs.Queues.{Next, Ready, NoneWaits, Limited, dequeued, dequeued_from, dequeued_next, first_of, next_of, running, waiting}
+use Rattle.r3_model.specs.Queues.{Next, Ready, NoneWaits, Limited, dequeued, dequeued_from, dequeued_next, next_of, running, waiting}
 use Rattle.r3_model.specs.Rows.{Flow, flow_at, flows_at}
 use Rattle.r3_model.specs.Valid.{IsValid}
 use Rattle.r3_laws.specs.OfQueues.{IsSame, QueuesTell}

@@ -1,13 +1,12 @@
 -- Rows in the order of their IDs are noted one after the other.
 use Rattle.std.proofs.Common.{◌≡◌, ◌≢◌, ℕ, ◌+◌, ◌<◌, ◌≤◌, ◌-◌, ◌^◌, List, [], ◌∷◌, ◌++◌, length, get_or, drop, map, filter_map, Option, Some, None, refl, sym, ap, ◌∙◌, subst, arith}
 use Rattle.std.proofs.lemmas.List.{append-nil, append_assoc, drop_all, drop_more, length-append}
-use Rattle.std.specs.Prelude.{T, IsTrue}
+use Rattle.std.specs.Prelude.{IsTrue}
 use Rattle.std.specs.List.{AllByRecursion, cons_option}
 use Rattle.std.specs.FinMap.Entries.{is_sorted}
 use Rattle.r3_rows.specs.declared.rows.FlowRow.{FlowRow}
 use Rattle.r3_rows.specs.declared.rows.Key.{Key}
 use Rattle.r3_rows.specs.declared.rows.Key.TheVariants as keys
-use Rattle.r3_rows.specs.declared.rows.Cell.{Cell}
 use Rattle.r3_entry.specs.declared.entry.Entry.{Entry}
 use Rattle.r3_entry.specs.Formed.{IsFormed}
 use Rattle.r3_entry.specs.History.{Map, Write, map_at}
@@ -18,13 +17,12 @@ use Rattle.sys_queue.specs.Rows.{Rows}
 use Rattle.sys_queue.specs.Index as queues
 use Rattle.sys_pending.specs.Index as pending
 use Rattle.r3_model.specs.Language.{Text}
-use Rattle.r3_model.specs.Machine.{Begun}
 use Rattle.r3_model.specs.Rows.{Flow, flow_at, flows_at}
 use Rattle.r3_model.specs.Run.{restarted}
 use Rattle.r3_laws.specs.OfPending.{RowsGather, RowsListed, RowsRise, id_in}
 use Rattle.r3_laws.specs.OfQueues.{rows_of}
 use Rattle.r3_laws.proofs.Flows.{flows_at-there}
-use Rattle.r3_exec.specs.Runs.{ArePinned, Keeps, Stands, is_one, language, rows_now}
+use Rattle.r3_exec.specs.Runs.{ArePinned, Stands, rows_now}
 use Rattle.r3_exec.specs.declared.exec.Exec.{Exec}
 use Rattle.r3_exec.proofs.Few.{few_alone}
 

@@ -1,15 +1,13 @@
 //! The executor.
 
-ghost use Rattle.std.specs.Prelude.{◌≡◌, ◌≢◌, ◌++◌, ◌∷◌, [], ℕ, List, length, map, IfOk, OnOk, IsErrOf};
+ghost use Rattle.std.specs.Prelude.{◌≡◌, ◌++◌, ◌∷◌, [], ℕ, length, map, IfOk, OnOk, IsErrOf};
 ghost use Rattle.std.specs.Option.{option_copied};
 ghost use Rattle.std.specs.Option.{ForSome};
 ghost use Rattle.std.specs.List.{filter_map};
 ghost use Rattle.r3_desk.specs.Causes.{Rose};
 ghost use Rattle.fn_tree.specs.Declarations.{any, is_table};
-ghost use Rattle.r3_entry.specs.declared.entry.Entry.{Entry};
-ghost use Rattle.r3_store.specs.Holds.{Stands as StoreStands};
 ghost use Rattle.r3_model.specs.Machine.{State};
-ghost use Rattle.r3_model.specs.Run.{restarted, pending_ids};
+ghost use Rattle.r3_model.specs.Run.{pending_ids};
 ghost use Rattle.r3_model.specs.Rows.{flow_at, row_at};
 ghost use Rattle.r3_model.specs.Language.{Queue};
 ghost use Rattle.r3_model.specs.Functions.{queue_of};

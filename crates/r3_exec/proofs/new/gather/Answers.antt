@@ -1,4 +1,4 @@
-use Rattle.std.proofs.Common.{ℕ, ◌+◌, ◌≤◌, length, drop, refl, ◌∙◌, arith}
+use Rattle.std.proofs.Common.{refl, ◌∙◌, arith}
 use Rattle.r3_exec.proofs.Gathering.{all_noted, next_row, none_noted, one_noted, with_first}
 use Rattle.r3_exec.proofs.new.gather.Goals as goal
 

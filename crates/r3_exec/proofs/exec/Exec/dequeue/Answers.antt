@@ -1,4 +1,4 @@
-use Rattle.std.proofs.Common.{◌≡◌, Ok, None, refl, ap}
+use Rattle.std.proofs.Common.{Ok, None, refl, ap}
 use Rattle.r3_model.specs.Event.{Dequeue}
 use Rattle.r3_exec.specs.Ends.{dequeue_reply}
 use Rattle.r3_exec.specs.declared.dequeue.Dequeued.{Dequeued}

@@ -1,4 +1,4 @@
-use Rattle.std.proofs.Common.{◌≡◌, Option, Some, sym, ap, ◌∙◌}
+use Rattle.std.proofs.Common.{◌≡◌, Option, sym, ap, ◌∙◌}
 use Rattle.std.specs.Option.{is_some}
 use Rattle.sys_queue.specs.Lines.{Line}
 use Rattle.r3_model.specs.Given.{Answers}
