@@ -1,5 +1,6 @@
 pub mod TableLemmas
 pub mod DerivationLemmas
+mod SpelledLemmas
 pub mod StepLemmas
 pub mod ViableLemmas
 pub mod ParseLemmas

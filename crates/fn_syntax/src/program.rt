@@ -1,18 +1,19 @@
 //! Parsing.
 
 ghost use Rattle.std.specs.Prelude.{◌≡◌, ◌<◌, ◌^◌, ℕ, List, IfOk, Err, None, length};
-ghost use Rattle.std.specs.Prelude.{nat_lt, true};
+ghost use Rattle.std.specs.Prelude.{MatchResult, nat_lt, true};
 ghost use Rattle.fn_lex.specs.Lexed.{Lexed};
 ghost use Rattle.fn_tree.specs.Soundness.{each_passes, are_names, names_in, params_of};
 ghost use Rattle.fn_tree.specs.declared.program.Item.{Item as Tree};
 ghost use Rattle.fn_grammar.specs.Letters.{letters};
 ghost use Rattle.fn_grammar.specs.Derivation.{IsProgram};
 ghost use Rattle.fn_grammar.specs.Place.{IsPlace};
+ghost use Rattle.fn_spell.specs.Limits.{IsReadAs};
 
 use crate::fault::SyntaxError;
 use crate::parser::Parser;
 use fn_grammar::Letter;
-use fn_lex::{Token, spans_are_slices};
+use fn_lex::{Token, one_reading, spans_are_slices};
 use fn_tree::program::Program;
 use std::alloc::Global;
 
@@ -41,8 +42,13 @@ pub fn parse(alloc: Global, text: &[u8], tokens: &[Token]) -> Result<Program, Sy
     ensures none { (at : ℕ)
         → result ≡ Err (SyntaxError.Syntax at)
         → (q : List Tree) → IsProgram (letters text.now tokens.now) q → ⊥ }
+
+    // Bytes that are read as these items, as a spelling within the limits is, are parsed as just these.
+    ensures spelled { (q : List Tree) → IsReadAs text.now q
+        → MatchResult result (λ p. p.items.items ≡ q) (λ e. e ≡ SyntaxError.Memory) }
 {
     spans_are_slices();
+    one_reading();
     let mut parser = Parser::new(alloc)?;
     for token in tokens {
         let word = &text[token.from as usize..token.to as usize];

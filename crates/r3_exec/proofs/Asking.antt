@@ -1,15 +1,14 @@
 -- An external call, and what a crash leaves of it.
-use Rattle.std.proofs.Common.{◌≡◌, ◌⊎◌, ℕ, ◌+◌, ◌≤◌, List, [], ◌∷◌, ◌++◌, length, map, take, Option, Some, None, inl, inr, ⊎_elim, arith, refl, sym, ap, ◌∙◌, subst, length-append}
+use Rattle.std.proofs.Common.{◌≡◌, ℕ, ◌≤◌, List, length, map, take, Option, Some, None, inl, ⊎_elim, arith, ap, ◌∙◌, subst, length-append}
 use Rattle.std.proofs.lemmas.List.{take_all}
-use Rattle.r3_value.specs.declared.value.Outcome.{Outcome}
 use Rattle.r3_entry.specs.declared.entry.Entry.{Entry}
 use Rattle.r3_entry.specs.Image.{IsHistoryOf}
 use Rattle.r3_desk.specs.Asked as desk
-use Rattle.r3_desk.specs.Crash.{GoesOn, Reach, LeavesOnly}
+use Rattle.r3_desk.specs.Crash.{GoesOn, Reach}
 use Rattle.r3_desk.specs.Disk.{told_len}
 use Rattle.r3_desk.specs.Moments.{leaves_then}
 use Rattle.r3_model.specs.Event.{Call}
-use Rattle.r3_exec.specs.Does.{IsLeft, Leaves, told_after, told_of}
+use Rattle.r3_exec.specs.Does.{Leaves, told_after, told_of}
 
 pub told_more : (o : Option (List desk.Call)) (calls : List Call) → told_len o ≤ told_len (told_after o calls)
 told_more None calls = omega arith

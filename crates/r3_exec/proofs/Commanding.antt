@@ -1,8 +1,6 @@
 -- A command that a caller may give, and whose entry it gives.
-use Rattle.std.proofs.Common.{◌≡◌, ◌≢◌, ℕ, ◌+◌, ◌≤◌, Bool, true, false, not, List, [], ◌∷◌, length, All, Option, Some, None, refl, sym, ap, ◌∙◌, subst}
-use Rattle.std.specs.List.{list_any}
+use Rattle.std.proofs.Common.{◌≡◌, ◌+◌, true, false, not, List, [], ◌∷◌, length, None, refl}
 use Rattle.r3_value.specs.declared.value.Val.{Val}
-use Rattle.r3_value.specs.declared.value.Outcome.{Outcome}
 use Rattle.r3_entry.specs.declared.entry.Entry.{Entry}
 use Rattle.r3_entry.specs.Limits.{IsName}
 use Rattle.sys_flow.specs.declared.command.Command.{Command}
@@ -12,10 +10,10 @@ use Rattle.r3_model.specs.Acts.{load_entry}
 use Rattle.r3_model.specs.Commands.{commanded}
 use Rattle.r3_model.specs.Event.{Event, Run, Reply}
 use Rattle.r3_model.specs.Event as reply
-use Rattle.r3_model.specs.Fits.{Fits, IsFit}
-use Rattle.r3_model.specs.Given.{Given, Enters, Answers, unless}
+use Rattle.r3_model.specs.Fits.{IsFit}
+use Rattle.r3_model.specs.Given.{Enters, Answers, unless}
 use Rattle.r3_model.specs.Language.{Language, Text}
-use Rattle.r3_model.specs.Machine.{State, given, snap_of}
+use Rattle.r3_model.specs.Machine.{State}
 use Rattle.r3_model.specs.Valid.{IsValid}
 use Rattle.r3_laws.proofs.CasesOf.{case-of}
 use Rattle.r3_exec.specs.Entered.{Gives}

@@ -1,7 +1,6 @@
 -- What was done on a desk, of an event that makes no call.
-use Rattle.std.proofs.Common.{◌≡◌, ℕ, ◌+◌, List, [], ◌∷◌, ◌++◌, length, map, take, Option, Some, None, refl, sym, ap, ◌∙◌, subst}
+use Rattle.std.proofs.Common.{◌≡◌, ℕ, List, [], ◌∷◌, Option, Some, None, refl, sym, ap, ◌∙◌, subst}
 use Rattle.std.proofs.lemmas.List.{append-nil}
-use Rattle.std.specs.Option.{option_map}
 use Rattle.r3_value.specs.declared.value.Outcome.{Outcome}
 use Rattle.r3_entry.specs.declared.entry.Entry.{Entry}
 use Rattle.r3_desk.specs.Asked as desk
@@ -11,10 +10,15 @@ use Rattle.r3_model.specs.Functions.{language_of}
 use Rattle.r3_model.specs.Given.{Given, Answers}
 use Rattle.r3_model.specs.Goes.{Steps}
 use Rattle.r3_model.specs.Language.{Language}
+use Rattle.r3_model.specs.Fits.{Fits}
+use Rattle.r3_model.specs.Lawful.{IsLawful, IsLimited}
+use Rattle.r3_model.specs.Valid.{IsValid}
+use Rattle.r3_laws.specs.OfStates.{KeepsValid}
+use Rattle.r3_store.specs.Holds.{Holds}
 use Rattle.r3_model.specs.Machine.{State, Begun, Out, after_reply, calls_of, came, given, snap_of, stepped}
-use Rattle.r3_exec.specs.Does.{Does, told_after, told_of}
+use Rattle.r3_exec.specs.Does.{Does, told_after}
 use Rattle.r3_exec.specs.Entered.{HasCome, reply_after, state_after}
-use Rattle.r3_exec.specs.Runs.{Runs, language}
+use Rattle.r3_exec.specs.Runs.{Keeps, Runs, language}
 use Rattle.r3_exec.specs.declared.enter.Entered.{Entered}
 use Rattle.r3_exec.specs.declared.exec.Exec.{Exec}
 use Rattle.r3_exec.proofs.Syncs.{no_more}
@@ -64,3 +68,31 @@ module _ {D : Type 0} (size : D → Option ℕ) (image : D → Option (List ℕ)
         runs = runs;
         few_syncs = no_more (syncs desk) (syncs desk) refl 0;
       }
+
+  -- the machine's step, which makes no call
+  pub by_runs : (old new : D) (before after : Exec) (st then : State) (k : ℕ) (ev : Event) (r reply : Reply)
+      → stepped (language before) st ev None ≡ record { state = then; reply = r; calls = [] } → Runs size image may_leave new after then k
+      → asked new ≡ asked old → syncs new ≡ syncs old → after.program ≡ before.program → reply ≡ r
+      → Does size image may_leave asked syncs old new after st k ev reply
+  by_runs old new before after st then k ev r reply is runs same_asked same_syncs program reply_is = record {
+    calls = [];
+    after = then;
+    steps = subst (λ (items : List Item). Steps (language_of items) st ev reply [] then) (sym program) (steps_by (language before) st ev None then r reply [] [] is reply_is refl);
+    told = same_asked ∙ told_none (asked old);
+    runs = runs;
+    few_syncs = no_more (syncs old) (syncs new) same_syncs 0;
+  }
+
+  -- and keeps the state valid
+  pub by_step : (old new : D) (before after : Exec) (st then : State) (k : ℕ) (ev : Event) (r reply : Reply)
+      → stepped (language before) st ev None ≡ record { state = then; reply = r; calls = [] }
+      → IsLawful (language before) → IsLimited (language before) → KeepsValid → IsValid (language before) st → Fits st.history ev
+      → Keeps after then.history then.begun → Holds size image may_leave new after.store then.history k
+      → asked new ≡ asked old → syncs new ≡ syncs old → after.program ≡ before.program → reply ≡ r
+      → Does size image may_leave asked syncs old new after st k ev reply
+  by_step old new before after st then k ev r reply is lawful limited law valid fits keeps holds same_asked same_syncs program reply_is =
+      let P = language before in
+      let then_valid : IsValid P then = subst (λ (o : Out). IsValid P o.state) is (law P st ev (None ∷ []) lawful limited valid fits (tt {0}, tt {0})) in
+      by_runs old new before after st then k ev r reply is
+      (record { stands = record { valid = subst (λ (items : List Item). IsValid (language_of items) then) (sym program) then_valid; keeps = keeps }; holds = holds })
+      same_asked same_syncs program reply_is

@@ -1,11 +1,10 @@
 -- An entry that stands in the store, before its change is noted.
-use Rattle.std.proofs.Common.{◌≡◌, ℕ, ◌+◌, ◌≤◌, List, [], ◌∷◌, ◌++◌, length, map, sym, ap, ◌∙◌, subst}
+use Rattle.std.proofs.Common.{◌≡◌, ℕ, ◌≤◌, List, [], ◌∷◌, ◌++◌, sym, ap, ◌∙◌, subst}
 use Rattle.r3_entry.specs.declared.entry.Entry.{Entry}
 use Rattle.r3_entry.specs.Limits.{IsEntry}
 use Rattle.sys_queue.specs.Lines.{declared_of, new_lines}
 use Rattle.sys_queue.specs.Index as queues
 use Rattle.sys_pending.specs.Index as pending
-use Rattle.r3_model.specs.Language.{Text}
 use Rattle.r3_model.specs.Machine.{Begun}
 use Rattle.r3_laws.specs.OfStates.{flows_in}
 use Rattle.r3_store.specs.Holds as store

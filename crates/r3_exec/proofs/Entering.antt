@@ -1,5 +1,5 @@
 -- The entry of an event is such as the store takes, and the machine's step is done by it.
-use Rattle.std.proofs.Common.{◌≡◌, ℕ, ◌+◌, ◌<◌, ◌≤◌, ◌^◌, Bool, true, false, cond, ◌&&◌, nat_lt, fold, List, [], ◌∷◌, ◌++◌, length, Option, Some, None, refl, sym, ap, ◌∙◌, subst, arith, inr}
+use Rattle.std.proofs.Common.{◌≡◌, ℕ, ◌+◌, ◌<◌, ◌≤◌, ◌^◌, Bool, false, cond, ◌&&◌, nat_lt, fold, List, [], ◌∷◌, length, Option, Some, None, refl, ap, ◌∙◌, arith}
 use Rattle.std.proofs.lemmas.Bool.Decides.{nat_tests}
 use Rattle.r3_value.specs.declared.value.Outcome.{Outcome}
 use Rattle.r3_gate.specs.declared.fault.Limit.{Limit as Room}
@@ -15,14 +15,14 @@ use Rattle.r3_snap.specs.Conflicts.{earlier}
 use Rattle.r3_store.specs.Past.{first_conflict, first_from, first_write}
 use Rattle.r3_model.specs.Event.{Event, Reply}
 use Rattle.r3_model.specs.Event as reply
-use Rattle.r3_model.specs.Given.{Given, Enters}
+use Rattle.r3_model.specs.Given.{Given}
 use Rattle.r3_model.specs.Language.{Language}
 use Rattle.r3_model.specs.Lawful.{IsLawful, IsLimited}
-use Rattle.r3_model.specs.Machine.{State, Begun, Out, after_act, calls_of, came, entered, full_of, given, snap_of, stepped}
+use Rattle.r3_model.specs.Machine.{State, Begun, after_act, calls_of, came, entered, full_of, given, snap_of, stepped}
 use Rattle.r3_model.specs.Valid.{IsValid}
 use Rattle.r3_laws.specs.OfStates.{EntersLight, EntersWhatFollows, EntersWithinLimits, KeepsValid, flows_in}
 use Rattle.r3_exec.specs.Ends.{limit_of}
-use Rattle.r3_exec.specs.Entered.{Gives, HasCome, after_closing, closing, reply_after, state_after}
+use Rattle.r3_exec.specs.Entered.{Gives, after_closing, closing, reply_after, state_after}
 use Rattle.r3_exec.specs.declared.enter.Entered.TheVariants as ends
 
 -- ---- no entry stands past the length

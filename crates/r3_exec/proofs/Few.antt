@@ -1,5 +1,5 @@
 -- A formed history has few workflows: a record has a byte at least for each row that it writes.
-use Rattle.std.proofs.Common.{◌≡◌, ℕ, ◌+◌, ◌<◌, ◌≤◌, ◌-◌, ◌^◌, Bool, true, false, cond, List, [], ◌∷◌, ◌++◌, length, map, take, fold, flat_map, filter_map, Option, Some, None, refl, sym, ap, ◌∙◌, subst, arith}
+use Rattle.std.proofs.Common.{◌≡◌, ℕ, ◌+◌, ◌<◌, ◌≤◌, ◌-◌, ◌^◌, Bool, true, false, cond, List, [], ◌∷◌, ◌++◌, length, fold, flat_map, filter_map, Option, Some, None, refl, sym, subst, arith}
 use Rattle.std.specs.Prelude.{T}
 use Rattle.std.specs.Option.{is_some}
 use Rattle.std.specs.List.{enumerate_from}
@@ -11,9 +11,9 @@ use Rattle.r3_rows.specs.declared.rows.Cell.{Cell}
 use Rattle.r3_rows.specs.Keys.{key_cmp}
 use Rattle.r3_entry.specs.declared.entry.Entry.{Entry}
 use Rattle.r3_bytes.specs.Spelling.{number}
-use Rattle.r3_entry.specs.Bytes.{act, cell, entry, key, list, option, read, record_sizes, size}
+use Rattle.r3_entry.specs.Bytes.{act, cell, entry, key, list, option, read, record_sizes}
 use Rattle.r3_entry.specs.Formed.{IsFormed}
-use Rattle.r3_entry.specs.History.{Map, Write, after_entry, map_at}
+use Rattle.r3_entry.specs.History.{Map, after_entry, map_at}
 use Rattle.r3_model.specs.Rows.{Flow, flow_seen, flows_at}
 use Rattle.r3_model.specs.Language.{Text}
 use Rattle.r3_rows.specs.declared.rows.FlowRow.{FlowRow}

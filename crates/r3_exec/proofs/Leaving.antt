@@ -1,12 +1,12 @@
 -- What a crash leaves of runs of disk calls.
-use Rattle.std.proofs.Common.{◌≡◌, ◌⊎◌, ℕ, ◌≤◌, List, take, Option, Some, inl, inr, ⊎_elim, arith, refl, sym, subst}
+use Rattle.std.proofs.Common.{◌≡◌, ◌⊎◌, ℕ, ◌≤◌, List, take, Option, inl, inr, ⊎_elim, arith, refl, sym, subst}
 use Rattle.r3_entry.specs.declared.entry.Entry.{Entry}
 use Rattle.r3_entry.specs.Image.{IsHistoryOf}
 use Rattle.r3_desk.specs.Asked as desk
-use Rattle.r3_desk.specs.Crash.{Reach, LeavesOnly}
+use Rattle.r3_desk.specs.Crash.{Reach}
 use Rattle.r3_desk.specs.Disk.{told_len}
 use Rattle.r3_desk.specs.Moments.{started, LeavesImage}
-use Rattle.r3_exec.specs.Does.{IsLeft, Leaves}
+use Rattle.r3_exec.specs.Does.{Leaves}
 
 module _ {D : Type 0} (may_leave : D → List ℕ → Type 0) (moment : D → ℕ) (reach : D → Reach) (said : D → Option (List ℕ)) (asked : D → Option (List desk.Call)) where
   -- disk calls alone, which leave what was settled, or all

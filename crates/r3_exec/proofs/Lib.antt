@@ -16,4 +16,7 @@ pub mod Rows
 pub mod Syncs
 pub mod Turnings
 pub mod TurnGives
+pub mod Txns
 pub mod Asking
+pub mod Writers
+pub mod TxnEntries

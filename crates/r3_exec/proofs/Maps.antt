@@ -1,5 +1,5 @@
 -- The map of a store as of an index that may be read.
-use Rattle.std.proofs.Common.{◌≡◌, ℕ, ◌≤◌, List, ⊎_elim, arith, sym, subst}
+use Rattle.std.proofs.Common.{◌≡◌, ℕ, List, ⊎_elim, arith}
 use Rattle.r3_entry.specs.declared.entry.Entry.{Entry}
 use Rattle.r3_entry.specs.History.{map_at}
 use Rattle.r3_chain.specs.Versions.{as_of}

@@ -1,10 +1,8 @@
 -- The indexes once an entry's change of a workflow's row is noted.
-use Rattle.std.proofs.Common.{◌≡◌, ℕ, ◌+◌, ◌<◌, ◌≤◌, ◌-◌, ◌^◌, List, [], ◌∷◌, ◌++◌, length, map, Option, Some, None, sym, ap, ◌∙◌, subst}
-use Rattle.std.specs.FinMap.Entries.{put}
+use Rattle.std.proofs.Common.{◌≡◌, ◌≤◌, List, [], ◌∷◌, ◌++◌, length, Option, Some, None, sym, ap, ◌∙◌, subst}
 use Rattle.r3_rows.specs.declared.rows.FlowRow.{FlowRow}
 use Rattle.r3_entry.specs.declared.entry.Entry.{Entry}
-use Rattle.r3_entry.specs.Formed.{IsFormed, Follows}
-use Rattle.sys_queue.specs.Lines.{Line, Place, bytes_cmp, declared_of, new_lines}
+use Rattle.sys_queue.specs.Lines.{declared_of, new_lines}
 use Rattle.sys_queue.specs.Rows.{Rows}
 use Rattle.sys_queue.specs.Index as queues
 use Rattle.sys_pending.specs.Index as pending
@@ -14,7 +12,7 @@ use Rattle.r3_model.specs.Rows.{flow_at}
 use Rattle.r3_store.specs.Holds as store
 use Rattle.r3_store.specs.declared.store.Store.{Store}
 use Rattle.r3_laws.specs.OfPending.{RowsFollow, RowsTell}
-use Rattle.r3_exec.specs.Placed.{IsChange, HasEntered, changed}
+use Rattle.r3_exec.specs.Placed.{IsChange, HasEntered}
 use Rattle.r3_exec.specs.Runs.{ArePinned, Keeps, rows_now}
 use Rattle.r3_exec.specs.declared.exec.Exec.{Exec}
 use Rattle.r3_exec.proofs.Rows.{find_now, same_now, changed_now, id_short, follows_last}

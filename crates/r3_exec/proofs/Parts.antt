@@ -1,9 +1,8 @@
 -- An executor of which the store alone has changed.
-use Rattle.std.proofs.Common.{◌≡◌, ℕ, List, length, map, sym, subst}
+use Rattle.std.proofs.Common.{◌≡◌, ℕ, List, sym, subst}
 use Rattle.r3_entry.specs.declared.entry.Entry.{Entry}
 use Rattle.r3_store.specs.Holds as store
 use Rattle.r3_store.specs.declared.store.Store.{Store}
-use Rattle.r3_model.specs.Language.{Text}
 use Rattle.r3_model.specs.Machine.{State, Begun}
 use Rattle.r3_exec.specs.Runs.{ArePinned, Keeps, Stands}
 use Rattle.r3_exec.specs.declared.exec.Exec.{Exec}

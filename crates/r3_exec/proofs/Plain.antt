@@ -5,7 +5,7 @@ use Rattle.r3_entry.specs.declared.entry.Entry.{Entry}
 use Rattle.r3_rows.specs.declared.rows.FlowRow.{FlowRow}
 use Rattle.fn_tree.specs.declared.flow.Request.{Request}
 use Rattle.sys_flow.specs.declared.command.Command.{Command}
-use Rattle.r3_model.specs.Event.{Event, Dequeue, Run, Turn}
+use Rattle.r3_model.specs.Event.{Run, Turn}
 use Rattle.r3_model.specs.Language.{Language, Text}
 use Rattle.r3_laws.proofs.Cases.{AskCase, TurnCase, Case, commits, hears, bears, links, awaits, finishes, goes_on, programs, loads, starts, enqueues, dequeues, turns, cancels, resumes, forks, recovers}
 

@@ -1,5 +1,5 @@
 -- Numbers of syncs.
-use Rattle.std.proofs.Common.{◌≡◌, ◌⊎◌, ℕ, ◌+◌, ◌≤◌, Option, Some, None, refl, sym, ap, ◌∙◌, ⊎_elim, arith}
+use Rattle.std.proofs.Common.{◌≡◌, ◌⊎◌, ℕ, ◌+◌, Option, Some, None, refl, ap, ◌∙◌, ⊎_elim, arith}
 use Rattle.std.specs.Option.{option_map}
 use Rattle.r3_exec.specs.Does.{SyncsWithin}
 

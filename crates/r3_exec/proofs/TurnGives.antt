@@ -1,5 +1,5 @@
 -- What a turn gives whose entry is known.
-use Rattle.std.proofs.Common.{◌≡◌, ℕ, ◌+◌, List, [], ◌∷◌, length, Option, Some, None, refl, sym, ap, ◌∙◌}
+use Rattle.std.proofs.Common.{◌≡◌, ◌+◌, List, [], ◌∷◌, length, Option, Some, None, sym, ap, ◌∙◌}
 use Rattle.r3_value.specs.declared.value.Outcome.{Outcome}
 use Rattle.r3_entry.specs.declared.entry.Entry.{Entry}
 use Rattle.r3_entry.specs.Limits.{IsOutcome}

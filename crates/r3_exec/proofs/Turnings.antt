@@ -1,5 +1,7 @@
 -- What the asks of a workflow come to.
-use Rattle.std.proofs.Common.{◌≡◌, ℕ, ◌+◌, List, length, Option, Some, None, refl, sym, ap, ◌∙◌}
+use Rattle.std.proofs.Common.{◌≡◌, ℕ, ◌+◌, List, length, Option, Some, None, Ok, Err, refl, ap, ◌∙◌}
+use Rattle.std.specs.Prelude.{OnErr}
+use Rattle.std.specs.declared.result.Result.{Result}
 use Rattle.r3_value.specs.declared.value.Outcome.{Outcome}
 use Rattle.r3_entry.specs.declared.entry.Entry.{Entry}
 use Rattle.fn_tree.specs.declared.flow.AskKind.{AskKind}
@@ -9,11 +11,15 @@ use Rattle.fn_tree.specs.declared.flow.Request.{Request}
 use Rattle.sys_flow.specs.Awaits.{awaited_of}
 use Rattle.sys_flow.specs.Children.{child_id}
 use Rattle.r3_model.specs.Event as reply
-use Rattle.r3_model.specs.Given.{Given, Enters, Answers}
+use Rattle.r3_model.specs.Given.{Given, Enters}
 use Rattle.r3_model.specs.Language.{Language, Text}
 use Rattle.r3_model.specs.Turns.{asked, asks_outside, await_turn, child_or_id, now, text_of}
 use Rattle.r3_exec.specs.Turning.{Comes}
 use Rattle.r3_exec.specs.declared.turning.Turning.TheVariants as turns
+
+pub on_err : {A E : Type 0} (r : Result A E) (F : Type 0) → F → OnErr r F
+on_err (Ok a) F f = tt {0}
+on_err (Err e) F f = f
 
 abbrev called_for : Request → AskKind → Option Request
 called_for q asking.Txn = None

@@ -1,12 +1,11 @@
 -- What became of an entry, before its event closes a snapshot.
 use Rattle.std.specs.FinMap.Entries.{is_sorted}
 use Rattle.r3_rows.specs.Keys.{bytes_cmp}
-use Rattle.std.specs.Prelude.{T, ◌≡◌, ◌≤◌, ℕ, ◌+◌, map, List, [], ◌∷◌, ◌++◌, length, Option, Some, None}
+use Rattle.std.specs.Prelude.{T, ◌≡◌, ◌≤◌, ℕ, ◌+◌, List, [], ◌∷◌, ◌++◌, length, Option, Some, None}
 use Rattle.r3_entry.specs.declared.entry.Entry.{Entry}
 use Rattle.r3_rows.specs.declared.rows.Key.{Key}
 use Rattle.r3_rows.specs.declared.rows.Key.TheVariants as keys
 use Rattle.r3_rows.specs.declared.rows.Cell.{Cell}
-use Rattle.r3_rows.specs.declared.rows.Cell.TheVariants as cells
 use Rattle.r3_rows.specs.declared.rows.FlowRow.{FlowRow}
 use Rattle.r3_entry.specs.Limits.{IsEntry}
 use Rattle.r3_store.specs.Holds as store

@@ -5,12 +5,11 @@ use Rattle.std.specs.FinMap.Entries.{is_sorted}
 use Rattle.r3_rows.specs.Keys.{bytes_cmp}
 use Rattle.r3_entry.specs.declared.entry.Entry.{Entry}
 use Rattle.r3_store.specs.Holds as store
-use Rattle.fn_tree.specs.declared.program.Item.{Item}
 use Rattle.sys_queue.specs.Lines.{declared_of, new_lines}
 use Rattle.sys_queue.specs.Rows.{Rows}
 use Rattle.sys_queue.specs.Index as queues
 use Rattle.sys_pending.specs.Index as pending
-use Rattle.r3_model.specs.Language.{Language, Text}
+use Rattle.r3_model.specs.Language.{Language}
 use Rattle.r3_model.specs.Functions.{language_of}
 use Rattle.r3_model.specs.Rows.{flows_at}
 use Rattle.r3_model.specs.Machine.{State, Begun}

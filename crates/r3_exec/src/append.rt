@@ -1,8 +1,10 @@
 //! Commands.
 
-ghost use Rattle.std.specs.Prelude.{◌+◌, List, length, ◌≡◌, ℕ, IfOk, IsErrOf};
+ghost use Rattle.std.specs.Prelude.{◌+◌, List, length, take, ◌≡◌, ℕ, IfOk, IsErrOf};
 ghost use Rattle.std.specs.Option.{ForSome};
 ghost use Rattle.r3_desk.specs.Causes.{Rose};
+ghost use Rattle.r3_desk.specs.Moments.{LeavesImage};
+ghost use Rattle.r3_entry.specs.Image.{IsHistoryOf};
 ghost use Rattle.r3_model.specs.Machine.{State};
 ghost use Rattle.r3_model.specs.Event.{Run};
 ghost use Rattle.r3_exec.specs.Runs.{Runs, language};
@@ -59,6 +61,12 @@ impl Exec {
             Leaves D.moment D.reach D.said D.asked desk.old desk.new st.history k }
         ensures reads { (st : State) (k : ℕ) → Runs D.size D.image D.may_leave desk.old self.old st k →
             ForSome (D.image desk.new) (IsRead st.history k) }
+
+        // More exactly: what is staged by then isn't on the disk.
+        ensures staged { (st : State) (k : ℕ) → Runs D.size D.image D.may_leave desk.old self.old st k →
+            LeavesImage D.moment D.reach D.may_leave D.said D.asked desk.old desk.new (IsHistoryOf (take k st.history)) }
+        ensures reads_settled { (st : State) (k : ℕ) → Runs D.size D.image D.may_leave desk.old self.old st k →
+            ForSome (D.image desk.new) (IsHistoryOf (take k st.history)) }
         ensures asked { D.asked desk.new ≡ D.asked desk.old }
         ensures disk { IsErrOf result ExecFault.Disk → Rose (D.disk_faults desk.old) (D.disk_faults desk.new) }
         ensures no_fault { (IsErrOf result ExecFault.Disk → ⊥) → D.disk_faults desk.new ≡ D.disk_faults desk.old }
@@ -97,6 +105,12 @@ impl Exec {
             Leaves D.moment D.reach D.said D.asked desk.old desk.new st.history k }
         ensures reads { (st : State) (k : ℕ) → Runs D.size D.image D.may_leave desk.old self.old st k →
             ForSome (D.image desk.new) (IsRead st.history k) }
+
+        // More exactly: what is staged by then isn't on the disk.
+        ensures staged { (st : State) (k : ℕ) → Runs D.size D.image D.may_leave desk.old self.old st k →
+            LeavesImage D.moment D.reach D.may_leave D.said D.asked desk.old desk.new (IsHistoryOf (take k st.history)) }
+        ensures reads_settled { (st : State) (k : ℕ) → Runs D.size D.image D.may_leave desk.old self.old st k →
+            ForSome (D.image desk.new) (IsHistoryOf (take k st.history)) }
         ensures asked { D.asked desk.new ≡ D.asked desk.old }
         ensures disk { IsErrOf result ExecFault.Disk → Rose (D.disk_faults desk.old) (D.disk_faults desk.new) }
         ensures no_fault { (IsErrOf result ExecFault.Disk → ⊥) → D.disk_faults desk.new ≡ D.disk_faults desk.old }

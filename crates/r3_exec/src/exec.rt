@@ -5,7 +5,6 @@ ghost use Rattle.std.specs.Option.{option_copied};
 ghost use Rattle.std.specs.Option.{ForSome};
 ghost use Rattle.std.specs.List.{filter_map};
 ghost use Rattle.r3_desk.specs.Causes.{Rose};
-ghost use Rattle.fn_tree.specs.Declarations.{any, is_table};
 ghost use Rattle.r3_model.specs.Machine.{State};
 ghost use Rattle.r3_model.specs.Run.{pending_ids};
 ghost use Rattle.r3_model.specs.Rows.{flow_at, row_at};
@@ -16,6 +15,7 @@ ghost use Rattle.r3_exec.specs.Does.{IsRead, Leaves, SyncsWithin};
 use crate::ends::ExecFault;
 use fn_tree::checked::Checked;
 use fn_tree::program::Item;
+use r3_commands::has_table;
 use r3_desk::Desk;
 use r3_laws::pending_tell;
 use r3_past::{flow_row, user_row};
@@ -36,27 +36,6 @@ pub struct Exec {
     pub(crate) queues: Queues,
     pub(crate) pending: Pending,
     pub(crate) begun: BTreeMap<Txt, u32>,
-}
-
-// The item declares this table.
-fn is_table(item: &Item, table: &str) -> bool
-    ensures { result ≡ is_table table.now item.now }
-{
-    match item {
-        Item::Table { name } => name.as_str() == table,
-        _ => false,
-    }
-}
-
-fn declares(items: &[Item], table: &str) -> bool
-    ensures { result ≡ any (is_table table.now) items.now }
-{
-    'items: for item in items {
-        if is_table(item, table) {
-            return true;
-        }
-    }
-    false
 }
 
 // The queue that an item declares.
@@ -86,7 +65,7 @@ impl Exec {
     pub fn has_table(&self, table: &str) -> bool
         ensures { result ≡ (language self.now).has_table table.now }
     {
-        declares(&self.program.program().items, table)
+        has_table(&self.program, table)
     }
 
     /// The row of a workflow, None where no workflow has the ID.

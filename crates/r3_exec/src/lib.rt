@@ -16,8 +16,10 @@ mod new;
 mod reads;
 mod snapshots;
 mod stored;
+mod turn;
 mod turn_parts;
 mod turning;
+mod txn_turn;
 
 pub use ends::{CommandEnd, DequeueEnd, ExecFault, TurnEnd};
 pub use exec::Exec;

@@ -68,7 +68,7 @@ impl Exec {
     // What it comes to that a workflow's function asked so.
     fn asking(&self, alloc: Global, id: &Txt, request: Request) -> Result<Turning, Memory>
         requires stands { (h : List E) × StoreStands self.now.store h }
-        requires asked { IsAsked (language self.now) request }
+        requires asked { (h : List E) → StoreStands self.now.store h → IsAsked (language self.now) h id.now request }
         ensures { IfOk result (λ t. (h : List E) → StoreStands self.now.store h →
             Comes (language self.now) h id.now (λ snap answer. asked (language self.now) h id.now snap answer request.kind request)
             (asks_outside (language self.now) h id.now (FlowEnd.Asks request)) t) }

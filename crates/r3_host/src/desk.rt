@@ -3,6 +3,7 @@
 ghost use Rattle.std.specs.Prelude.{None};
 
 use crate::file::LazyFile;
+use crate::outside::{NoAnswer, Outside};
 use r3_desk::{AskFault, Desk, DiskFault, SayFault};
 use r3_value::{Memory, Outcome, Val};
 use std::alloc::Global;
@@ -10,12 +11,14 @@ use std::fs::File;
 use std::io::Print;
 use std::rt::Files;
 
-/// A desk over a file, which is opened at the first call on the disk and made where it isn't there, and over standard
-/// output. External calls fail.
+/// A desk over a file, which is opened at the first call on the disk and made where it isn't there, over standard
+/// output, and over an outside party behind two files beside the first: `PATH.out` for the calls, and `PATH.in` for
+/// the answers.
 #[derive(Drop)]
 pub struct HostDesk<R: Files<File = File> + Print + Drop> {
     rt: R,
     file: LazyFile,
+    outside: Outside,
     disk_faults: u64,
     say_faults: u64,
     ask_faults: u64,
@@ -27,6 +30,7 @@ impl<R: Files<File = File> + Print + Drop> HostDesk<R> {
         Ok(HostDesk {
             rt,
             file: LazyFile::at(alloc, path)?,
+            outside: Outside::at(alloc, path)?,
             disk_faults: 0,
             say_faults: 0,
             ask_faults: 0,
@@ -113,14 +117,14 @@ impl<R: Files<File = File> + Print + Drop> Desk for HostDesk<R> {
         }
     }
 
-    fn ask(
-        &mut self,
-        _id: &str,
-        _number: u32,
-        _name: &str,
-        _args: &Val,
-    ) -> Result<Outcome, AskFault> {
-        self.ask_faults = self.ask_faults.saturating_add(1);
-        Err(AskFault::Fault)
+    fn ask(&mut self, id: &str, number: u32, name: &str, args: &Val) -> Result<Outcome, AskFault> {
+        match self.outside.ask(&self.rt, id, number, name, args) {
+            Ok(outcome) => Ok(outcome),
+            Err(NoAnswer::Fault) => {
+                self.ask_faults = self.ask_faults.saturating_add(1);
+                Err(AskFault::Fault)
+            }
+            Err(NoAnswer::Memory) => Err(AskFault::Memory),
+        }
     }
 }

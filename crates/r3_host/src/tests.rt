@@ -2,7 +2,7 @@
 
 use super::*;
 use r3_desk::{AskFault, Desk, DiskFault, Shelf, ShelfFault, Source};
-use r3_value::Val;
+use r3_value::{Outcome, Txt, Val};
 use std::fs;
 use std::test::Fail;
 
@@ -48,6 +48,42 @@ fn a_disk_in_no_folder_fails(rt: HostRuntime) -> Result<(), Fail> {
         desk.ask("m1", 1, "notify", &Val::Null).err(),
         Some(AskFault::Fault)
     );
+    Ok(())
+}
+
+#[test]
+fn calls_are_written_and_answers_read_in_order(rt: HostRuntime) -> Result<(), Fail> {
+    let alloc = rt.alloc();
+    fs::write(
+        &rt,
+        "asked.in",
+        "{\"value\":7}\nno answer\n{\"failure\":\"gone\"}",
+    )?;
+    let mut desk = HostDesk::at(rt, alloc, "asked")?;
+    assert!(rt;
+        desk.ask("m1", 1, "notify", &Val::Int(3))?
+            .same(&Outcome::Value(Val::Int(7)))
+    );
+    // a line that is no answer is passed over
+    assert_eq!(rt;
+        desk.ask("m1", 2, "pay", &Val::Null).err(),
+        Some(AskFault::Fault)
+    );
+    let gone = Outcome::Failure(Txt::new(alloc, "gone")?);
+    assert!(rt; desk.ask("m1", 2, "pay", &Val::Null)?.same(&gone));
+    // the answers have ended
+    assert_eq!(rt;
+        desk.ask("m1", 3, "pay", &Val::Null).err(),
+        Some(AskFault::Fault)
+    );
+    let calls = fs::read_to_string(&rt, "asked.out")?;
+    assert_eq!(rt; calls.as_str().lines().count(), 4);
+    assert_eq!(rt;
+        calls.as_str().lines().next(),
+        Some("{\"args\":3,\"id\":\"m1\",\"n\":1,\"name\":\"notify\"}")
+    );
+    fs::remove_file(&rt, "asked.in")?;
+    fs::remove_file(&rt, "asked.out")?;
     Ok(())
 }
 

@@ -9,6 +9,7 @@ use Rattle.fn_syntax.specs.Machine.{state_of}
 use Rattle.fn_syntax.proofs.MachineLemmas.{takes_true, takes_false}
 use Rattle.fn_syntax.proofs.ParseLemmas.{ahead_start, start_tame, ahead_token, place_token, none_token, ahead_all, program_is, program_only, place_end, none_end, at_of}
 use Rattle.fn_syntax.proofs.ReadableLemmas.{program_names, program_few}
+use Rattle.fn_syntax.proofs.SpelledLemmas.{read_with}
 use Rattle.fn_syntax.proofs.program.parse.Goals as goal
 
 pub loop-token-init : goal.loop-token-init
@@ -37,6 +38,18 @@ returns-then-not-branch-clause-none c = λ at e q h.
     let no : c.in_ok-step.field-0 ≡ false = c.if-not-branch.true in
     let r = takes_false c.in_ok-step.field-0 (Some (letter t.kind (slice_range text t.from t.to))) p.todo (state_of p) c.step.new.self no c.in_ok-step.ensures in
     none_token text ts i d t p c.loop-token-test.true refl c.loop-token.invariant.ahead r q h
+
+pub returns-then-not-branch-clause-spelled : goal.returns-then-not-branch-clause-spelled
+returns-then-not-branch-clause-spelled c = λ q s.
+    let text = c.args.text.now in
+    let ts = c.args.tokens.now in
+    let i = c.loop-token.token-index in
+    let p = c.loop-token.parser in
+    let d : Token = record { kind = kind.Name; from = 0; to = 0 } in
+    let t : Token = slice_index_or ts i d in
+    let no : c.in_ok-step.field-0 ≡ false = c.if-not-branch.true in
+    let r = takes_false c.in_ok-step.field-0 (Some (letter t.kind (slice_range text t.from t.to))) p.todo (state_of p) c.step.new.self no c.in_ok-step.ensures in
+    absurd (none_token text ts i d t p c.loop-token-test.true refl c.loop-token.invariant.ahead r q (read_with text ts q c.one_reading.ensures c.requires.lexed s))
 
 pub loop-token-preserved : goal.loop-token-preserved
 loop-token-preserved c =
@@ -88,6 +101,16 @@ returns-then-branch-clause-few_params c =
     let d = subst (IsProgram (letters text ts)) (sym c.into_items.ensures) (program_is (letters text ts) p c.step-2.new.self a k.went) in
     program_few text ts _ (c.spans_are_slices.ensures text ts None c.requires.lexed) d
 
+pub returns-then-branch-clause-spelled : goal.returns-then-branch-clause-spelled
+returns-then-branch-clause-spelled c = λ q s.
+    let text = c.args.text.now in
+    let ts = c.args.tokens.now in
+    let p = c.loop-token.parser in
+    let a = ahead_all text ts c.loop-token.token-index p (omega (arith, c.loop-token-test.false)) c.loop-token.invariant.ahead in
+    let k = takes_true c.in_ok-step-2.field-0 None p.todo (state_of p) c.step-2.new.self c.if-branch.true c.in_ok-step-2.ensures in
+    let h = read_with text ts q c.one_reading.ensures c.requires.lexed s in
+    c.into_items.ensures ∙ sym (program_only (letters text ts) p c.step-2.new.self a k.went q h)
+
 pub returns-else-branch-clause-place : goal.returns-else-branch-clause-place
 returns-else-branch-clause-place c = λ at e.
     let text = c.args.text.now in
@@ -105,3 +128,12 @@ returns-else-branch-clause-none c = λ at e q h.
     let a = ahead_all text ts c.loop-token.token-index p (omega (arith, c.loop-token-test.false)) c.loop-token.invariant.ahead in
     let r = takes_false c.in_ok-step-2.field-0 None p.todo (state_of p) c.step-2.new.self c.if-branch.false c.in_ok-step-2.ensures in
     none_end (letters text ts) p a r q h
+
+pub returns-else-branch-clause-spelled : goal.returns-else-branch-clause-spelled
+returns-else-branch-clause-spelled c = λ q s.
+    let text = c.args.text.now in
+    let ts = c.args.tokens.now in
+    let p = c.loop-token.parser in
+    let a = ahead_all text ts c.loop-token.token-index p (omega (arith, c.loop-token-test.false)) c.loop-token.invariant.ahead in
+    let r = takes_false c.in_ok-step-2.field-0 None p.todo (state_of p) c.step-2.new.self c.if-branch.false c.in_ok-step-2.ensures in
+    absurd (none_end (letters text ts) p a r q (read_with text ts q c.one_reading.ensures c.requires.lexed s))

@@ -1,4 +1,4 @@
-use Rattle.std.proofs.Common.{◌≡◌, ◌+◌, ℕ, ◌≤◌, ⊎_elim, List, [], ◌∷◌, length, take, Option, Some, None, Ok, Err, arith, refl, sym, ap, ◌∙◌, subst}
+use Rattle.std.proofs.Common.{◌≡◌, ℕ, ◌≤◌, ⊎_elim, List, [], ◌∷◌, length, take, Option, Some, None, Ok, Err, arith, sym, ap, ◌∙◌, subst}
 use Rattle.std.proofs.lemmas.List.{take_all}
 use Rattle.std.specs.declared.result.Result.{Result}
 use Rattle.r3_value.specs.declared.value.Outcome.{Outcome}
@@ -15,10 +15,10 @@ use Rattle.fn_tree.specs.declared.program.Item.{Item}
 use Rattle.r3_model.specs.Functions.{language_of}
 use Rattle.r3_model.specs.Goes.{Steps}
 use Rattle.r3_model.specs.Language.{Text}
-use Rattle.r3_model.specs.Machine.{State, calls_of}
+use Rattle.r3_model.specs.Machine.{calls_of}
 use Rattle.r3_exec.specs.Does.{told_after}
 use Rattle.r3_exec.specs.Ends.{turn_reply}
-use Rattle.r3_exec.specs.Entered.{reply_after, state_after}
+use Rattle.r3_exec.specs.Entered.{state_after}
 use Rattle.r3_exec.specs.Runs.{Runs, language}
 use Rattle.r3_exec.proofs.Asking.{by_ask, leaves_on, told_more}
 use Rattle.r3_exec.proofs.Doing.{told_none}

@@ -1,4 +1,4 @@
-use Rattle.std.proofs.Common.{length, ap, ◌∙◌}
+use Rattle.std.proofs.Common.{ap, ◌∙◌}
 use Rattle.r3_turns.specs.Drafts.{given_by}
 use Rattle.r3_turns.specs.declared.awaits.AwaitDraft.{AwaitDraft}
 use Rattle.r3_exec.specs.Runs.{language}

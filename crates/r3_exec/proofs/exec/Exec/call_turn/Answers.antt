@@ -1,4 +1,4 @@
-use Rattle.std.proofs.Common.{◌≡◌, ◌≤◌, ℕ, List, length, Option, None, arith, inl, sym, ap, ◌∙◌, subst}
+use Rattle.std.proofs.Common.{◌≡◌, ◌≤◌, List, length, Option, None, arith, inl, sym, ap, ◌∙◌, subst}
 use Rattle.r3_desk.specs.Asked as desk
 use Rattle.r3_desk.specs.Disk.{told_len}
 use Rattle.fn_tree.specs.declared.program.Item.{Item}

@@ -1,4 +1,4 @@
-use Rattle.std.proofs.Common.{◌≡◌, ℕ, ◌+◌, length, None, inr, sym, ap, refl}
+use Rattle.std.proofs.Common.{◌+◌, length, None, sym, refl}
 use Rattle.r3_model.specs.Event.{Run}
 use Rattle.r3_model.specs.Language.{Text}
 use Rattle.r3_commands.specs.Drafts.{reply_of}
@@ -46,3 +46,9 @@ returns-in-Ok-clause-crash g c = λ st k runs.
 pub returns-in-Err-clause-crash : goal.returns-in-Err-clause-crash
 returns-in-Err-clause-crash g c = λ st k runs.
     by_images_settled g.D.Desk.may_leave g.D.Desk.moment g.D.Desk.reach g.D.Desk.said g.D.Desk.asked _ _ st.history k c.enter.ensures.asked (c.enter.ensures.crash st k runs)
+
+pub returns-in-Ok-clause-staged : goal.returns-in-Ok-clause-staged
+returns-in-Ok-clause-staged g c = c.enter.ensures.crash
+
+pub returns-in-Ok-clause-reads_settled : goal.returns-in-Ok-clause-reads_settled
+returns-in-Ok-clause-reads_settled g c = c.enter.ensures.reads

@@ -4,9 +4,9 @@ use Rattle.r3_snap.specs.Conflicts.{keys_of}
 use Rattle.r3_store.specs.Past.{first_conflict}
 use Rattle.r3_model.specs.Functions.{language_of}
 use Rattle.r3_model.specs.Language.{Text}
-use Rattle.r3_model.specs.Machine.{Begun, Out, after_act}
+use Rattle.r3_model.specs.Machine.{Begun, Out}
 use Rattle.r3_model.specs.Valid.{IsValid}
-use Rattle.r3_exec.specs.Entered.{HasCome, after_closing, closing, state_after}
+use Rattle.r3_exec.specs.Entered.{after_closing, state_after}
 use Rattle.r3_exec.specs.Placed.{IsPlaced}
 use Rattle.r3_exec.specs.Runs.{Keeps, language}
 use Rattle.r3_exec.specs.declared.commit.Placed.{Placed}

@@ -1,8 +1,7 @@
-use Rattle.std.proofs.Common.{◌≡◌, ℕ, List, Option, Some, None, [], ◌++◌, ◌∷◌, sym, ap, ◌∙◌, subst}
-use Rattle.std.specs.Prelude.{T}
+use Rattle.std.proofs.Common.{ℕ, List, sym, ap, ◌∙◌, subst}
 use Rattle.std.specs.Map.{keys_of}
 use Rattle.std.specs.List.Sorted.{IsStrictlySortedBy}
-use Rattle.std.specs.FinMap.Entries.{is_sorted, is_sorted-put}
+use Rattle.std.specs.FinMap.Entries.{is_sorted-put}
 use Rattle.std.proofs.lemmas.Cmp.{nat_list_cmp_total}
 use Rattle.r3_rows.specs.Keys.{bytes_cmp}
 use Rattle.r3_model.specs.Language.{Text}

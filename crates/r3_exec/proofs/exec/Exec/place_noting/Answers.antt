@@ -1,5 +1,4 @@
-use Rattle.std.proofs.Common.{◌≡◌, List, ◌++◌, ◌∷◌, [], Ok, sym, ap, ◌∙◌, subst}
-use Rattle.r3_entry.specs.declared.entry.Entry.{Entry}
+use Rattle.std.proofs.Common.{◌++◌, ◌∷◌, [], Ok, sym, ap, subst}
 use Rattle.r3_store.specs.declared.store.Store.{Store}
 use Rattle.r3_store.specs.Holds.{Holds}
 use Rattle.r3_exec.specs.declared.commit.Placed.{Placed}

@@ -1,4 +1,4 @@
-use Rattle.std.proofs.Common.{◌≡◌, ◌+◌, length, Some, sym, take, inr}
+use Rattle.std.proofs.Common.{◌+◌, length, Some, sym, inr}
 use Rattle.r3_model.specs.Event.{Turn}
 use Rattle.r3_model.specs.Event as reply
 use Rattle.r3_exec.specs.Runs.{language}

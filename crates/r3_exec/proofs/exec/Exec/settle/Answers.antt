@@ -1,5 +1,4 @@
-use Rattle.std.proofs.Common.{◌≡◌, ◌⊎◌, ℕ, ◌+◌, Option, refl, sym, subst, inl, inr, ⊎_elim, arith}
-use Rattle.std.specs.Option.{option_map}
+use Rattle.std.proofs.Common.{inl, inr, ⊎_elim}
 use Rattle.r3_exec.proofs.Leaving.{by_images}
 use Rattle.r3_exec.proofs.Parts.{with_store}
 use Rattle.r3_exec.proofs.Syncs.{few_more}

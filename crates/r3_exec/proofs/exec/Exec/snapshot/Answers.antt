@@ -1,4 +1,4 @@
-use Rattle.std.proofs.Common.{◌≡◌, Option, sym, ap, ◌∙◌}
+use Rattle.std.proofs.Common.{ap, ◌∙◌}
 use Rattle.std.specs.FinMap.{find}
 use Rattle.r3_rows.specs.Keys.{bytes_cmp}
 use Rattle.r3_model.specs.Machine.{Begun}

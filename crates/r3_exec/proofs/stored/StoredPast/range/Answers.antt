@@ -1,4 +1,4 @@
-use Rattle.std.proofs.Common.{◌≡◌, ℕ, List, IfOk, sym, subst}
+use Rattle.std.proofs.Common.{◌≡◌, IfOk, sym, subst}
 use Rattle.std.specs.List.{filter_map}
 use Rattle.r3_entry.specs.History.{Map, seen_in}
 use Rattle.r3_exec.proofs.Maps.{map_is}

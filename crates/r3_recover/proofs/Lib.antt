@@ -1,0 +1,12 @@
+mod Asking
+mod Nexts
+mod Owing
+mod Leaving
+mod Phases
+mod Points
+mod There
+mod Starts
+mod Turning
+mod Taking
+mod FirstEntry
+mod Openings

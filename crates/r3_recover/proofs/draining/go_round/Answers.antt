@@ -1,0 +1,45 @@
+use Rattle.std.proofs.Common.{List, refl, sym, subst}
+use Rattle.r3_model.specs.Functions.{language_of}
+use Rattle.r3_model.specs.Language.{Text}
+use Rattle.r3_exec.specs.Runs.{language}
+use Rattle.r3_recover.proofs.Phases.{queue_names}
+use Rattle.r3_recover.proofs.Taking.{raised-then}
+use Rattle.r3_recover.proofs.Turning.{GoesRound, one-taken}
+use Rattle.r3_recover.proofs.draining.go_round.Goals as goal
+
+pub dequeue_each-requires : goal.dequeue_each-requires
+dequeue_each-requires g c =
+    let x = c.requires.point in
+    (x.0, x.1, x.2, c.args.turns, x.3)
+
+pub give_turns-end-requires : goal.give_turns-end-requires
+give_turns-end-requires g c =
+    let x = c.requires.point in
+    (x.0, x.1, x.2, (c.in-Ok-true.ensures.goes x.0 x.1 x.2 c.args.turns x.3).0 c.in-Ok-true.field-0-test)
+
+pub returns-in-Ok-false-clause-goes : goal.returns-in-Ok-false-clause-goes
+returns-in-Ok-false-clause-goes g c = λ from st k p. (c.in-Ok-false.ensures.goes from st k c.args.turns p).1 c.in-Ok-false.field-0-test
+
+pub returns-in-Err-clause-goes : goal.returns-in-Err-clause-goes
+returns-in-Err-clause-goes g c = λ from st k p. c.in-Err.ensures.goes from st k c.args.turns p
+
+pub returns-in-Ok-false-clause-ask_faults : goal.returns-in-Ok-false-clause-ask_faults
+returns-in-Ok-false-clause-ask_faults g c = (0, c.dequeue_each.ensures.ask_faults)
+
+pub returns-in-Err-clause-ask_faults : goal.returns-in-Err-clause-ask_faults
+returns-in-Err-clause-ask_faults g c = (0, c.dequeue_each.ensures.ask_faults)
+
+pub returns-clause-ask_faults : goal.returns-clause-ask_faults
+returns-clause-ask_faults g c = raised-then 0 c.give_turns-end.ensures.ask_faults.0 _ _ _ c.dequeue_each.ensures.ask_faults c.give_turns-end.ensures.ask_faults.1
+
+pub returns-clause-fewer : goal.returns-clause-fewer
+returns-clause-fewer g c = λ is.
+    one-taken c.dequeue_each.new.round.changed c.args.left.now c.dequeue_each.new.round.left c.give_turns-end.new.round.left
+    (λ more. c.in-Ok-true.ensures.counted more refl) c.dequeue_each.ensures.fewer c.give_turns-end.ensures.fewer (λ none. c.give_turns-end.ensures.counted is none)
+
+pub returns-clause-goes : goal.returns-clause-goes
+returns-clause-goes g c = λ from st k p.
+    let here = (c.in-Ok-true.ensures.goes from st k c.args.turns p).0 c.in-Ok-true.field-0-test in
+    subst (λ (names : List Text). GoesRound g.D.Desk.size g.D.Desk.image g.D.Desk.may_leave g.D.Desk.moment g.D.Desk.reach g.D.Desk.said g.D.Desk.asked g.D.Desk.syncs from c.give_turns-end.new.desk c.give_turns-end.new.exec st k c.args.turns names (language c.args.exec.now) c.give_turns-end.new.round.left c.give_turns-end.result) (sym c.requires.queues)
+    (subst (λ is. GoesRound g.D.Desk.size g.D.Desk.image g.D.Desk.may_leave g.D.Desk.moment g.D.Desk.reach g.D.Desk.said g.D.Desk.asked g.D.Desk.syncs from c.give_turns-end.new.desk c.give_turns-end.new.exec st k c.args.turns (queue_names (language_of is)) (language_of is) c.give_turns-end.new.round.left c.give_turns-end.result) c.dequeue_each.ensures.program
+    (c.give_turns-end.ensures.goes from st k here))

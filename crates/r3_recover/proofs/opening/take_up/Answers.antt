@@ -1,0 +1,35 @@
+use Rattle.std.proofs.Common.{◌≡◌, ◌≢◌, ◌≤◌, ℕ, List, [], ◌∷◌, true, inl, length, refl, sym, ap, ◌∙◌, subst, arith}
+use Rattle.r3_entry.specs.declared.entry.Entry.{Entry}
+use Rattle.r3_entry.specs.Image.{IsHistoryOf}
+use Rattle.r3_recover.specs.Opened.{HasProgram}
+use Rattle.r3_recover.proofs.opening.take_up.Goals as goal
+
+none-of : (h : List Entry) → 0 ≡ length h → h ≡ []
+none-of [] is = refl
+none-of (e ∷ es) is = absurd (omega (arith, is))
+
+some-of : (h : List Entry) (n : ℕ) → n ≡ length h → (n ≡ 0 → ⊥) → h ≢ []
+some-of h n is not none = not (is ∙ ap (λ (es : List Entry). length es) none)
+
+pub returns-then-len-eq0-clause-reads : goal.returns-then-len-eq0-clause-reads
+returns-then-len-eq0-clause-reads g c = λ from h t i told.
+    let none = none-of h (sym c.if-len-eq0.true ∙ c.len.ensures h t.opens.holds.stands) in
+    subst (λ (es : List Entry). IsHistoryOf es i) (sym none) (c.begin_exec.ensures.reads i told)
+
+pub returns-then-len-eq0-clause-other : goal.returns-then-len-eq0-clause-other
+returns-then-len-eq0-clause-other g c = λ h stands not.
+    absurd (not (inl (none-of h (sym c.if-len-eq0.true ∙ c.len.ensures h stands))))
+
+pub returns-clause-does : goal.returns-clause-does
+returns-clause-does g c = λ from h t.
+    let stands = t.opens.holds.stands in
+    let some = some-of h c.len.result (c.len.ensures h stands) c.if-len-eq0.false in
+    c.recover_exec.ensures.does from h c.args.text.now t some ((c.has_program.ensures h stands some).0 c.if-not-has_program.false)
+
+pub returns-clause-crash : goal.returns-clause-crash
+returns-clause-crash g c = λ from h t.
+    c.recover_exec.ensures.crash from h t (some-of h c.len.result (c.len.ensures h t.opens.holds.stands) c.if-len-eq0.false)
+
+pub returns-clause-reads : goal.returns-clause-reads
+returns-clause-reads g c = λ from h t.
+    c.recover_exec.ensures.reads from h t (some-of h c.len.result (c.len.ensures h t.opens.holds.stands) c.if-len-eq0.false)

@@ -1,0 +1,10 @@
+mod Owing
+mod Voices
+mod Counting
+mod Calling
+mod Telling
+mod Leaving
+mod Serving
+mod Stopping
+mod Beginning
+mod Scripting

@@ -1,0 +1,10 @@
+mod Asking
+mod Marks
+mod Nexts
+mod Drains
+mod Leaving
+mod Doing
+mod Looking
+mod Beginning
+mod Faults
+mod Limits
