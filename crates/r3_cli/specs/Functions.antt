@@ -12,7 +12,7 @@ use Rattle.fn_grammar.specs.Place.{IsPlace}
 use Rattle.fn_check.specs.declared.fault.CheckKind.{CheckKind}
 use Rattle.fn_check.specs.declared.fault.CheckKind.TheVariants as kinds
 use Rattle.fn_check.specs.FirstFault.{first_fault}
-use Rattle.r3_load.specs.Texts.{Text}
+use Rattle.r3_model.specs.Language.{Text}
 use Rattle.r3_cli.specs.declared.functions.FunctionsFault.{FunctionsFault}
 use Rattle.r3_cli.specs.declared.functions.FunctionsFault.TheVariants as faults
 

@@ -6,11 +6,12 @@
 
 #[cfg(test)]
 mod cases;
-mod checking;
+mod begin;
+mod check;
 mod counts;
+mod files;
 mod functions;
 mod halt;
-mod lines;
 mod run;
 mod top;
 

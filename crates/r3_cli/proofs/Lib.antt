@@ -1,4 +1,0 @@
-pub mod Refusals
-pub mod Going
-pub mod Running
-pub mod Reaching

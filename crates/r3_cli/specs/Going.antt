@@ -1,0 +1,59 @@
+-- However a call has ended that began on a history: how far it has come, and what a crash leaves.
+use Rattle.std.specs.Prelude.{◌≡◌, ◌⊎◌, ℕ, ◌<◌, ◌^◌, List, [], ◌∷◌, ◌++◌, length, take, Option}
+use Rattle.fn_tree.specs.declared.program.Item.{Item}
+use Rattle.r3_entry.specs.declared.entry.Entry.{Entry}
+use Rattle.r3_desk.specs.Asked as desk
+use Rattle.r3_desk.specs.Crash.{Reach}
+use Rattle.r3_model.specs.Functions.{language_of}
+use Rattle.r3_model.specs.Language.{Language, Text}
+use Rattle.r3_model.specs.Script.{Line, Drain}
+use Rattle.r3_session.specs.Begun.{StopsOpening}
+use Rattle.r3_serve.specs.Served.{Loud, Stopped}
+use Rattle.r3_serve.specs.Scripted.{script_lines, ended_script_lines}
+use Rattle.r3_cli.specs.Functions.{IsAccepted}
+use Rattle.r3_cli.specs.Statuses.{last_line}
+use Rattle.r3_cli.specs.Answered.{Says, Answered, LeavesPrefix}
+use Rattle.r3_cli.specs.declared.halt.Halt.{Halt}
+
+-- some last line, or a first part of one
+abbrev pub IsCut : Text → Type 0
+IsCut line = (halt : Halt) × (rest : Text) × (line ++ rest ≡ last_line halt)
+
+-- Nothing was done of it: at most a last line was said, or a part of one.
+pub record Unbegun {D : Type 0} (told_image : D → Option Text) (moment : D → ℕ) (reach : D → Reach) (said : D → Option Text) (asked : D → Option (List desk.Call)) (from now : D) (h : List Entry) : Type 0 where
+  pub line : Text
+  pub cut : IsCut line
+  pub says : Says told_image said asked from now line
+  pub leaves : LeavesPrefix moment reach said asked from now h (length h) []
+
+module _ {D : Type 0} (told_image : D → Option Text) (moment : D → ℕ) (reach : D → Reach) (said : D → Option Text) (asked : D → Option (List desk.Call)) (from now : D) where
+  -- the opening ended early, and no line was answered
+  abbrev pub Opening : Language → Text → List Entry → Type 0
+  Opening P text h =
+      StopsOpening told_image moment reach said asked P from now text h × (said now ≡ said from) × (asked now ≡ asked from)
+
+  -- the lines before some line were answered, and a part of it at most
+  abbrev pub Within : Language → Text → List Entry → List Line → Type 0
+  Within P text h lines =
+      (done : List Line) × (later : List Line) × (lines ≡ done ++ later)
+      × (Answered told_image moment reach said asked from now P text h done []
+      ⊎ ((line : Line) × (more : List Line) × (later ≡ line ∷ more)
+      × Stopped told_image moment reach said asked from now P Loud text h done line))
+
+  -- the script is too long, and a last line or a part of it is said behind the replies
+  abbrev pub CutOff : Language → Text → List Entry → Text → Type 0
+  CutOff P text h script =
+      (2 ^ 26 < length script) × (line : Text) × IsCut line
+      × Answered told_image moment reach said asked from now P text h (ended_script_lines (take (2 ^ 26) script)) line
+
+  abbrev pub RunGoes : Text → List Entry → Text → Type 0
+  RunGoes text h script =
+      Unbegun told_image moment reach said asked from now h
+      ⊎ ((items : List Item) × IsAccepted text items
+      × (Opening (language_of items) text h ⊎ Within (language_of items) text h (script_lines script) ⊎ CutOff (language_of items) text h script))
+
+  abbrev pub RecoverGoes : Text → List Entry → ℕ → Type 0
+  RecoverGoes text h turns =
+      Unbegun told_image moment reach said asked from now h
+      ⊎ ((items : List Item) × IsAccepted text items
+      × (Opening (language_of items) text h ⊎ Within (language_of items) text h (Drain turns ∷ [])))
