@@ -6,9 +6,9 @@ use Rattle.r3_gate.specs.Gate.{Tracks}
 use Rattle.r3_gate.specs.declared.gate.Gate.{Gate}
 use Rattle.r3_entry.specs.declared.entry.Entry.{Entry}
 use Rattle.r3_entry.specs.Formed.{Follows}
-use Rattle.r3_store.specs.Past.{StandFor}
-use Rattle.r3_store.specs.Answers.{text_of, program_texts}
-use Rattle.r3_store.specs.Load.{payloads}
+use Rattle.r3_formed.specs.Past.{StandFor}
+use Rattle.r3_formed.specs.Answers.{text_of, program_texts}
+use Rattle.r3_formed.specs.Load.{payloads}
 use Rattle.r3_store.specs.Holds.{Stands, Holds, SameStore, MayFollow}
 use Rattle.r3_store.specs.declared.store.Store.{Store}
 

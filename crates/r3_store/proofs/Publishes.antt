@@ -12,7 +12,7 @@ use Rattle.r3_gate.specs.declared.gate.Gate.{Gate}
 use Rattle.r3_entry.specs.declared.entry.Entry.{Entry}
 use Rattle.r3_entry.specs.Formed.{IsFormed}
 use Rattle.r3_entry.specs.Image.{IsHistoryOf}
-use Rattle.r3_store.specs.Load.{payloads}
+use Rattle.r3_formed.specs.Load.{payloads}
 use Rattle.r3_store.specs.Holds.{Holds, Stands}
 use Rattle.r3_store.specs.declared.store.Store.{Store}
 use Rattle.r3_store.proofs.Images.{history_of_log}

@@ -18,7 +18,7 @@ use Rattle.r3_rows.specs.Keys.{key_cmp}
 use Rattle.r3_chain.specs.Versions.{Versions, versions_of, has_room, key_set, IsNext}
 use Rattle.r3_snap.specs.Conflicts.{keys_of}
 use Rattle.r3_rows.specs.KeyOrder.{key_cmp-total}
-use Rattle.r3_store.specs.Past.{StandFor, AreReady}
+use Rattle.r3_formed.specs.Past.{StandFor, AreReady}
 
 act_long : (a : Act) → 1 ≤ length (act a)
 act_long (acts.Program text) = omega arith

@@ -8,13 +8,13 @@ ghost use Rattle.r3_desk.specs.Moments.{LeavesImage};
 ghost use Rattle.r3_entry.specs.declared.entry.Entry.{Entry};
 ghost use Rattle.r3_entry.specs.Image.{IsHistoryOf};
 ghost use Rattle.r3_gate.specs.Log.{IsForeign, IsDamaged};
-ghost use Rattle.r3_store.specs.Load.{Loads};
-ghost use Rattle.r3_store.specs.Opened.{Reads, IsUnformed, IsStopped, IsCaused, open_fault};
+ghost use Rattle.r3_formed.specs.Load.{Loads};
+ghost use Rattle.r3_store.specs.Opened.{Reads, IsUnformed, IsStopped, IsCaused, open_fault, formed_fault};
 
 use crate::fault::OpenFault;
-use crate::load::{Loaded, load};
 use r3_desk::Desk;
 use r3_entry::{beginnings_are_formed, one_spelling};
+use r3_formed::{LoadFault, Loaded, load};
 use r3_gate::{Gate, GateFault};
 use std::alloc::Global;
 
@@ -27,6 +27,15 @@ fn fault_of(fault: GateFault) -> OpenFault
         GateFault::Disk => OpenFault::Disk,
         GateFault::Full { limit: _ } => OpenFault::Memory,
         GateFault::Memory => OpenFault::Memory,
+    }
+}
+
+fn fault_of_load(fault: LoadFault) -> OpenFault
+    ensures { result ≡ formed_fault fault }
+{
+    match fault {
+        LoadFault::NotFormed { entry } => OpenFault::NotFormed { entry },
+        LoadFault::Memory => OpenFault::Memory,
     }
 }
 
@@ -70,6 +79,6 @@ pub fn read_history<D: Desk>(
     };
     match load(alloc, &payloads.list, keep) {
         Ok(loaded) => Ok((gate, loaded)),
-        Err(fault) => Err(fault),
+        Err(fault) => Err(fault_of_load(fault)),
     }
 }
