@@ -1,14 +1,14 @@
 //! Histories as bytes by hand: which entry may stand behind others, and what their versions tell.
 
-ghost use Rattle.std.specs.Prelude.{IfOk};
-ghost use Rattle.r3_desk.specs.Crash.{NothingPending};
+ghost use Rattle.std.specs.Prelude.{IsTrue};
+ghost use Rattle.std.specs.List.{AllByRecursion};
+ghost use Rattle.r3_gate.specs.Log.{Fits, IsPayload};
+ghost use Rattle.r3_formed.specs.Load.{bytes_of};
 
 mod looks;
 mod rules;
 
 use crate::{LoadFault, Loaded, load};
-use r3_desk::{Desk, MemDesk, Room};
-use r3_gate::Gate;
 use std::alloc::Global;
 use std::test::Fail;
 
@@ -22,18 +22,6 @@ const LOAD: &str =
 // The workflow s1 was started.
 const STARTED: &str =
     "03 00000002 7331 00000001 00000000 00000001 01 00000002 7331 01 01 01 00000003 706179 04 00000000 00 00 00000002 00000000 00";
-
-fn desk_over(alloc: Global, image: Vec<u8>) -> Result<MemDesk, Fail>
-    ensures { IfOk result (λ desk.
-        NothingPending (⟦<MemDesk as Desk>⟧.image desk) (⟦<MemDesk as Desk>⟧.may_leave desk)) }
-{
-    let room = Room {
-        calls: 1000,
-        bytes: 200,
-    };
-    let desk = MemDesk::new(alloc, image, Vec::new(alloc), Vec::new(alloc), room)?;
-    Ok(desk)
-}
 
 // The bytes of hexadecimal digits; what is no digit doesn't count.
 fn put_digits(bytes: &mut Vec<u8>, digits: &str) -> Result<(), Fail> {
@@ -65,31 +53,45 @@ fn payload_of(alloc: Global, pieces: &[&str]) -> Result<Vec<u8>, Fail> {
     Ok(payload)
 }
 
-fn put_record(image: &mut Vec<u8>, payload: &[u8]) -> Result<(), Fail> {
-    let len = u32::try_from(payload.len()).unwrap_or(u32::MAX);
-    image.push(0xa5)?;
-    image.extend_from_slice(&len.to_be_bytes())?;
-    image.extend_from_slice(payload)?;
-    Ok(())
+fn is_short(payload: &Vec<u8>) -> bool
+    ensures { IsTrue result → IsPayload payload.now.items }
+{
+    let len = payload.len();
+    1 <= len && len <= 1 << 23
 }
 
-// The entries before, and behind them one of this payload, so many times.
-fn image_of(alloc: Global, before: &[&str], payload: &[u8], count: u32) -> Result<Vec<u8>, Fail> {
-    let mut image = b"R3STORE1".to_vec(alloc)?;
+fn are_short(payloads: &[Vec<u8>]) -> bool
+    ensures { IsTrue result → AllByRecursion (λ p. IsPayload p.items) payloads.now }
+{
+    'payloads: for payload in payloads {
+        if !is_short(payload) {
+            return false;
+        }
+    }
+    true
+}
+
+// Whether a log has room for the payloads, of which there are few.
+fn are_few(payloads: &[Vec<u8>]) -> bool
+    ensures { IsTrue result → Fits (bytes_of payloads.now) }
+{
+    payloads.len() <= 4 && are_short(payloads)
+}
+
+// What the entries before, and one of this payload behind them, are read as.
+fn read_with(
+    alloc: Global,
+    before: &[&str],
+    payload: Vec<u8>,
+    keep: bool,
+) -> Result<Result<Loaded, LoadFault>, Fail> {
+    let mut payloads = Vec::new(alloc);
     for digits in before {
-        let payload = payload_of(alloc, &[digits])?;
-        put_record(&mut image, &payload)?;
+        payloads.push(payload_of(alloc, &[digits])?)?;
     }
-    for _ in 0..count {
-        put_record(&mut image, payload)?;
+    payloads.push(payload)?;
+    if !are_few(&payloads) {
+        return Err(Fail::from("too many payloads"));
     }
-    image.push(0)?;
-    Ok(image)
-}
-
-// What the file's payloads are read as: all entries, or the texts of its programs.
-fn loaded(alloc: Global, image: Vec<u8>, keep: bool) -> Result<Result<Loaded, LoadFault>, Fail> {
-    let mut desk = desk_over(alloc, image)?;
-    let (_, payloads) = Gate::open(alloc, &mut desk)?;
-    Ok(load(alloc, &payloads.list, keep))
+    Ok(load(alloc, &payloads, keep))
 }

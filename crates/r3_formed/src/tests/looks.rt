@@ -1,6 +1,6 @@
 //! What the versions of a history tell as of an index.
 
-use super::{LOAD, PROGRAM, STARTED, image_of, loaded, payload_of};
+use super::{LOAD, PROGRAM, STARTED, payload_of, read_with};
 use crate::{flows_as_of, make_room, texts_between};
 use r3_rows::Key;
 use r3_value::Txt;
@@ -9,8 +9,8 @@ use std::test::Fail;
 #[test]
 fn rows_and_workflows_are_told_as_of_an_index(rt: HostRuntime) -> Result<(), Fail> {
     let alloc = rt.alloc();
-    let image = image_of(alloc, &[PROGRAM, LOAD], &payload_of(alloc, &[STARTED])?, 1)?;
-    let read = loaded(alloc, image, true)??;
+    let started = payload_of(alloc, &[STARTED])?;
+    let read = read_with(alloc, &[PROGRAM, LOAD], started, true)??;
     // the index, the keys of acct, the workflows
     let cases = [(1, 0, 0), (2, 1, 0), (3, 1, 1)];
     for (index, rows, flows) in cases {
@@ -31,9 +31,9 @@ fn rows_and_workflows_are_told_as_of_an_index(rt: HostRuntime) -> Result<(), Fai
 #[test]
 fn entries_or_program_texts_are_kept(rt: HostRuntime) -> Result<(), Fail> {
     let alloc = rt.alloc();
-    let read = loaded(alloc, image_of(alloc, &[PROGRAM, LOAD], &[], 0)?, true)??;
+    let read = read_with(alloc, &[PROGRAM], payload_of(alloc, &[LOAD])?, true)??;
     assert_eq!(rt; (read.entries.len(), read.texts.len()), (2, 0));
-    let read = loaded(alloc, image_of(alloc, &[PROGRAM, LOAD], &[], 0)?, false)??;
+    let read = read_with(alloc, &[PROGRAM], payload_of(alloc, &[LOAD])?, false)??;
     assert_eq!(rt; (read.entries.len(), read.texts.len()), (0, 1));
     for (number, text) in read.texts.iter() {
         assert!(rt; *number == 1 && text.as_str() == "table acct;");
@@ -44,7 +44,7 @@ fn entries_or_program_texts_are_kept(rt: HostRuntime) -> Result<(), Fail> {
 #[test]
 fn room_is_made_where_there_is_memory(rt: HostRuntime) -> Result<(), Fail> {
     let alloc = rt.alloc();
-    let mut read = loaded(alloc, image_of(alloc, &[PROGRAM, LOAD], &[], 0)?, true)??;
+    let mut read = read_with(alloc, &[PROGRAM], payload_of(alloc, &[LOAD])?, true)??;
     let mut keys = Vec::new(alloc);
     keys.push(Key::Flow {
         id: Txt::new(alloc, "s1")?,

@@ -1,6 +1,6 @@
 //! Each rule of formed histories, broken and kept by one entry, and the limits of an entry.
 
-use super::{LOAD, PROGRAM, STARTED, image_of, loaded, payload_of, put_digits};
+use super::{LOAD, PROGRAM, STARTED, payload_of, put_digits, read_with};
 use crate::LoadFault;
 use std::alloc::Global;
 use std::test::Fail;
@@ -26,13 +26,12 @@ const STEPPED: &str =
     "02 00000002 00000000 00000001 02 00000002 7331 00000000 01 02 00000003 706179 00 00 00";
 
 // The number of entries, where the last is of this payload.
-fn loaded_with(
+fn count_with(
     alloc: Global,
     before: &[&str],
-    payload: &[u8],
+    payload: Vec<u8>,
 ) -> Result<Result<u32, LoadFault>, Fail> {
-    let image = image_of(alloc, before, payload, 1)?;
-    match loaded(alloc, image, true)? {
+    match read_with(alloc, before, payload, true)? {
         Ok(read) => Ok(Ok(u32::try_from(read.entries.len()).unwrap_or(u32::MAX))),
         Err(fault) => Ok(Err(fault)),
     }
@@ -194,7 +193,7 @@ fn each_rule_of_formed_histories_is_checked(rt: HostRuntime) -> Result<(), Fail>
         } else {
             Err(LoadFault::NotFormed { entry })
         };
-        let got = loaded_with(alloc, before, &payload)?;
+        let got = count_with(alloc, before, payload)?;
         assert!(rt; got == want, "{what}");
     }
     Ok(())
@@ -230,9 +229,9 @@ fn rows_and_looks_have_their_limits(rt: HostRuntime) -> Result<(), Fail> {
     let alloc = rt.alloc();
     let fault = Err(LoadFault::NotFormed { entry: 3 });
     let before = [PROGRAM, LOAD];
-    assert!(rt; loaded_with(alloc, &before, &rows_of(alloc, 1024)?)? == Ok(3));
-    assert!(rt; loaded_with(alloc, &before, &rows_of(alloc, 1025)?)? == fault);
-    assert!(rt; loaded_with(alloc, &before, &looks_of(alloc, 4096)?)? == Ok(3));
-    assert!(rt; loaded_with(alloc, &before, &looks_of(alloc, 4097)?)? == fault);
+    assert!(rt; count_with(alloc, &before, rows_of(alloc, 1024)?)? == Ok(3));
+    assert!(rt; count_with(alloc, &before, rows_of(alloc, 1025)?)? == fault);
+    assert!(rt; count_with(alloc, &before, looks_of(alloc, 4096)?)? == Ok(3));
+    assert!(rt; count_with(alloc, &before, looks_of(alloc, 4097)?)? == fault);
     Ok(())
 }
