@@ -1,5 +1,5 @@
 -- One entry more is read of a log.
-use Rattle.std.proofs.Common.{◌≡◌, ℕ, ◌+◌, ◌<◌, ◌≤◌, ◌^◌, Bool, true, false, cond, List, [], ◌∷◌, ◌++◌, length, take, drop, get_or, map, refl, sym, ap, ◌∙◌, subst, arith, append-nil, append_assoc, length-append, zero, suc}
+use Rattle.std.proofs.Common.{◌≡◌, ℕ, ◌+◌, ◌<◌, ◌≤◌, ◌^◌, Bool, true, false, cond, List, [], ◌∷◌, ◌++◌, length, take, drop, get_or, map, refl, sym, ap, ◌∙◌, subst, arith, append-nil, append_assoc, zero, suc}
 use Rattle.std.specs.Prelude.{Vec}
 use Rattle.std.specs.List.{AllByRecursion}
 use Rattle.std.specs.declared.alloc.Global.{Global}
@@ -14,7 +14,6 @@ use Rattle.r3_entry.specs.History.{map_at}
 use Rattle.r3_formed.specs.Past.{StandFor}
 use Rattle.r3_formed.specs.Answers.{texts_from, text_at, program_texts}
 use Rattle.r3_formed.specs.Load.{payloads, bytes_of, load_fault}
-use Rattle.r3_formed.specs.declared.fault.LoadFault.{LoadFault}
 use Rattle.r3_formed.specs.declared.fault.LoadFault.TheVariants as faults
 
 pub load_not : (f : EntryFault) (n k : ℕ) → load_fault f n ≡ faults.NotFormed k → (f ≡ misses.NotEntry) × (n ≡ k)

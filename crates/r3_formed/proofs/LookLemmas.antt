@@ -1,25 +1,20 @@
 -- What chains answer, in terms of the map as of an index.
-use Rattle.std.proofs.Common.{◌≡◌, ℕ, Bool, true, false, List, [], ◌∷◌, map, Option, Some, None, refl, sym, ap, ◌∙◌, subst, unwrap_or, rules, cond, Bor, nat_lt, arith}
+use Rattle.std.proofs.Common.{◌≡◌, ℕ, Bool, true, false, List, [], ◌∷◌, map, Option, Some, None, refl, sym, ap, ◌∙◌, rules, cond, Bor, nat_lt, arith}
 use Rattle.std.proofs.lemmas.Bool.Decides.{nat_tests}
-use Rattle.std.specs.Prelude.{T, filter, option_and_then, IsSome, IsTrue, ◌↔◌, ◌&&◌, ◌==◌}
-use Rattle.std.specs.Option.{option_map, option_map_or}
+use Rattle.std.specs.Prelude.{filter, IsSome, IsTrue, ◌↔◌, ◌&&◌, ◌==◌}
 use Rattle.std.specs.List.{filter_map, cons_option}
 use Rattle.std.specs.Ordering.{nat_cmp, is_eq, is_le, is_lt, is_gt, ordering_reverse, ordering_then}
 use Rattle.std.specs.Cmp.{IsTotalOrder}
 use Rattle.std.specs.Cmp.Rules.{comparing}
 use Rattle.std.specs.declared.cmp.Ordering.{Ordering}
 use Rattle.std.specs.declared.cmp.Ordering.TheVariants.{Less, Equal, Greater}
-use Rattle.std.specs.FinMap.{find}
-use Rattle.std.specs.FinMap.Entries.{is_sorted}
 use Rattle.r3_rows.specs.declared.rows.Key.{Key}
 use Rattle.r3_rows.specs.declared.rows.Key.TheVariants.{User, Flow, Step}
 use Rattle.r3_rows.specs.declared.rows.Cell.{Cell}
 use Rattle.r3_rows.specs.Keys.{key_cmp, bytes_cmp}
-use Rattle.r3_rows.specs.KeyOrder.{key_cmp-total}
 use Rattle.r3_rows.specs.contracts.rows.KeyOrd.TheImpl as derived
-use Rattle.r3_entry.specs.History.{Map, Write, seen_in, is_between}
-use Rattle.r3_chain.specs.Versions.{Versions, Version, version_at, present, present_keys, as_of, range_at}
-use Rattle.r3_chain.specs.VersionLaws.{of_found, find-as_of}
+use Rattle.r3_entry.specs.History.{Map, Write, is_between}
+use Rattle.r3_chain.specs.Versions.{Versions, present_keys, as_of, range_at}
 use Rattle.r3_snap.specs.DerivedOrder.{same_cmp}
 use Rattle.r3_formed.specs.Answers.{name, flow_in}
 use Rattle.r3_formed.specs.Rules.{range_in, named_between}

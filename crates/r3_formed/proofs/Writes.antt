@@ -1,19 +1,19 @@
 -- The writes of an entry, one after another.
-use Rattle.std.proofs.Common.{◌≡◌, ℕ, ◌+◌, ◌<◌, ◌≤◌, List, [], ◌∷◌, ◌++◌, length, reverse, Option, Some, None, refl, sym, ap, subst, ◌∙◌, cond, fold, true, false, Bool}
+use Rattle.std.proofs.Common.{◌≡◌, ℕ, ◌+◌, ◌<◌, List, [], ◌∷◌, ◌++◌, reverse, Option, refl, sym, ap, subst, ◌∙◌, cond, true, false, Bool}
 use Rattle.std.proofs.lemmas.List.{reverse-append}
 use Rattle.std.specs.Prelude.{T, ◌||◌, ◌&&◌}
 use Rattle.std.specs.List.{AllByRecursion}
 use Rattle.std.specs.Ordering.{is_lt, is_eq, eq_by_cmp, ordering_reverse}
 use Rattle.std.specs.declared.cmp.Ordering.{Ordering}
 use Rattle.std.specs.declared.cmp.Ordering.TheVariants.{Less, Equal, Greater}
-use Rattle.std.specs.FinMap.Entries.{is_sorted, below_all}
+use Rattle.std.specs.FinMap.Entries.{below_all}
 use Rattle.r3_rows.specs.declared.rows.Key.{Key}
 use Rattle.r3_rows.specs.declared.rows.Cell.{Cell}
 use Rattle.r3_rows.specs.Keys.{key_cmp}
 use Rattle.r3_chain.specs.Versions.{Versions, versions_of, installed, has_room, without, IsNext}
 use Rattle.r3_chain.specs.VersionLaws.{versions_of-installed}
 use Rattle.r3_rows.specs.KeyOrder.{key_cmp-total}
-use Rattle.r3_formed.specs.Past.{all_installed, AreReady}
+use Rattle.r3_formed.specs.Past.{AreReady}
 
 abbrev pub Write : Type 0
 Write = Key × Option Cell

@@ -1,6 +1,6 @@
 -- The first entry past a snapshot that wrote a key is that: the definition that computes, as a statement.
-use Rattle.std.specs.Prelude.{◌≡◌, ℕ, ◌+◌, ◌<◌, Bool, true, false, cond, ◌&&◌, nat_lt, zero, suc, List, [], ◌∷◌, slice_get, Option, Some, None, refl}
-use Rattle.std.proofs.Common.{sym, ap, ◌∙◌, subst, arith}
+use Rattle.std.specs.Prelude.{◌≡◌, ℕ, ◌+◌, ◌<◌, Bool, true, false, cond, ◌&&◌, nat_lt, zero, suc, List, [], ◌∷◌, slice_get, Some, refl}
+use Rattle.std.proofs.Common.{subst, arith}
 use Rattle.std.proofs.lemmas.Bool.Decides.{nat_tests}
 use Rattle.r3_rows.specs.declared.rows.Key.{Key}
 use Rattle.r3_entry.specs.declared.entry.Entry.{Entry}

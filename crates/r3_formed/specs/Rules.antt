@@ -1,5 +1,5 @@
 -- The rules of formed histories, for one entry, in terms of the maps of those before it.
-use Rattle.std.specs.Prelude.{◌≡◌, ℕ, ◌+◌, ◌≤◌, List, [], length, Option, Some, None, IsTrue, IsSome, count_by, sum_by, option_and_then, ⊤, map, filter, ◌&&◌}
+use Rattle.std.specs.Prelude.{◌≡◌, ℕ, ◌+◌, ◌≤◌, List, [], Option, IsTrue, IsSome, count_by, sum_by, option_and_then, ⊤, map, filter, ◌&&◌}
 use Rattle.std.specs.Ordering.{is_le, is_gt}
 use Rattle.std.specs.Option.{option_map_or}
 use Rattle.std.specs.List.{AllByRecursion, filter_map}

@@ -1,6 +1,6 @@
 //! The rules of formed histories, for one entry behind those whose versions the chains keep.
 
-ghost use Rattle.std.specs.Prelude.{◌≡◌, ◌↔◌, ◌+◌, ◌<◌, ◌≤◌, ◌^◌, cond, [], IfOk, IsTrue, T, false, count_by, sum_by, List, length};
+ghost use Rattle.std.specs.Prelude.{◌≡◌, ◌↔◌, ◌+◌, ◌<◌, ◌≤◌, ◌^◌, cond, IfOk, IsTrue, T, false, count_by, sum_by, List, length};
 ghost use Rattle.std.specs.List.{AllByRecursion};
 ghost use Rattle.std.specs.FinMap.Entries.{is_sorted};
 ghost use Rattle.r3_rows.specs.Keys.{key_cmp, kind};

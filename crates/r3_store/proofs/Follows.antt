@@ -1,5 +1,5 @@
 -- An entry that was committed without a conflict follows the history.
-use Rattle.std.proofs.Common.{◌≡◌, ℕ, ◌+◌, ◌<◌, ◌≤◌, ◌^◌, List, [], ◌∷◌, ◌++◌, length, map, take, drop, fold, Option, Some, None, refl, sym, ap, subst, ◌∙◌, arith, cond, true, false, Bool, length-append, nat_lt, zero, suc, min, slice_get}
+use Rattle.std.proofs.Common.{◌≡◌, ℕ, ◌+◌, ◌<◌, ◌≤◌, List, [], ◌∷◌, ◌++◌, length, map, take, drop, fold, Option, Some, None, refl, sym, ap, subst, ◌∙◌, arith, cond, true, false, Bool, length-append, nat_lt, zero, suc, slice_get}
 use Rattle.std.specs.Prelude.{◌&&◌, ◌↔◌, Contains}
 use Rattle.std.specs.List.{AllByRecursion}
 use Rattle.std.proofs.lemmas.List.{take-append-le, map-append}
@@ -12,12 +12,11 @@ use Rattle.r3_entry.specs.declared.entry.Entry.{Entry}
 use Rattle.r3_entry.specs.History.{version_at, writes_key}
 use Rattle.r3_entry.specs.Bytes.{entry, size}
 use Rattle.r3_entry.specs.Formed.{Follows, IsFormed}
-use Rattle.r3_entry.specs.Limits.{IsEntry}
 use Rattle.r3_chain.specs.Versions.{Versions}
 use Rattle.r3_snap.specs.Conflicts.{earlier, keys_of}
 use Rattle.r3_formed.specs.Past.{StandFor, all_installed, first_from, first_write, first_conflict}
 use Rattle.r3_formed.specs.Load.{payloads}
-use Rattle.r3_store.specs.Holds.{Stands, Holds, MayFollow}
+use Rattle.r3_store.specs.Holds.{Holds, MayFollow}
 use Rattle.r3_formed.specs.Answers.{text_of, text_at, program_texts}
 use Rattle.r3_store.specs.declared.store.Store.{Store}
 use Rattle.r3_store.proofs.Publishes.{next_number, payloads_join}

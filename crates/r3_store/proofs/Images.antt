@@ -1,7 +1,7 @@
 -- The log of a history's payloads is an image of that history.
-use Rattle.std.proofs.Common.{◌≡◌, ◌≢◌, ◌⊎◌, ℕ, ◌+◌, ◌<◌, ◌≤◌, List, [], ◌∷◌, ◌++◌, length, map, take, drop, refl, sym, ap, subst, ◌∙◌, inl, inr, ⊎_elim, arith, append_assoc, length-append, suc, zero}
+use Rattle.std.proofs.Common.{◌≡◌, ◌≢◌, ◌⊎◌, ℕ, ◌+◌, List, [], ◌∷◌, ◌++◌, length, refl, ap, ◌∙◌, inl, inr, ⊎_elim, arith, length-append}
 use Rattle.r3_gate.specs.Log as log
-use Rattle.r3_gate.specs.Log.{IsLog, Fronts, size_of}
+use Rattle.r3_gate.specs.Log.{IsLog, size_of}
 use Rattle.r3_entry.specs.declared.entry.Entry.{Entry}
 use Rattle.r3_entry.specs.Bytes.{entry, records, record_of, magic, size}
 use Rattle.r3_entry.specs.Formed.{IsFormed}

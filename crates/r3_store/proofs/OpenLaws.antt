@@ -1,5 +1,5 @@
 -- A log is read as one history, or has one first entry that isn't formed.
-use Rattle.std.proofs.Common.{◌≡◌, ◌≢◌, ◌⊎◌, ℕ, ◌+◌, ◌<◌, ◌≤◌, ◌^◌, List, [], ◌∷◌, ◌++◌, length, map, Option, Some, None, refl, sym, ap, subst, ◌∙◌, inl, inr, ⊎_elim, arith, append-nil, append_assoc, length-append, Bool, true, false, nat_lt, Ok, Err, Result, take, drop}
+use Rattle.std.proofs.Common.{◌≡◌, ◌⊎◌, ℕ, ◌+◌, ◌<◌, ◌≤◌, ◌^◌, List, [], ◌∷◌, ◌++◌, length, map, Option, refl, sym, ap, subst, ◌∙◌, inl, inr, ⊎_elim, arith, append-nil, append_assoc, length-append, true, false, nat_lt, Ok, Err, Result, take, drop}
 use Rattle.std.specs.Prelude.{All, Contains}
 use Rattle.std.specs.Option.{ForSome}
 use Rattle.std.specs.List.{AllByRecursion}
@@ -25,7 +25,6 @@ use Rattle.r3_formed.specs.Answers.{text_of}
 use Rattle.r3_store.specs.Opened.{IsUnformed, IsStopped, IsCaused, open_fault, formed_fault, Reads, Opens}
 use Rattle.r3_formed.specs.declared.load.Loaded.{Loaded}
 use Rattle.r3_store.specs.declared.store.Store.{Store}
-use Rattle.r3_store.specs.declared.fault.OpenFault.{OpenFault}
 use Rattle.r3_store.specs.declared.fault.OpenFault.TheVariants as faults
 use Rattle.r3_formed.specs.declared.fault.LoadFault.{LoadFault}
 use Rattle.r3_formed.specs.declared.fault.LoadFault.TheVariants as loads

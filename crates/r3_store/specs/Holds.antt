@@ -1,9 +1,8 @@
 -- A store on a desk's disk, and the history that it holds.
-use Rattle.std.specs.Prelude.{◌≡◌, ◌⊎◌, ℕ, ◌+◌, ◌<◌, ◌≤◌, ◌^◌, Bool, List, [], ◌∷◌, ◌++◌, length, map, take, drop, All, Contains, IsTrue, count_by, sum_by, Option, Some}
+use Rattle.std.specs.Prelude.{◌≡◌, ◌⊎◌, ℕ, ◌+◌, ◌≤◌, List, [], ◌∷◌, ◌++◌, length, map, take, drop, Contains, count_by, sum_by, Option}
 use Rattle.std.specs.List.{AllByRecursion}
 use Rattle.r3_gate.specs.Gate.{Tracks}
 use Rattle.r3_entry.specs.declared.entry.Entry.{Entry}
-use Rattle.r3_entry.specs.Bytes.{entry, size}
 use Rattle.r3_entry.specs.Formed.{IsFormed, IsProgramFirst, IsReadAt, IsOfKind, IsNewStep, IsFlowRow, is_user, read_count}
 use Rattle.r3_formed.specs.Past.{StandFor}
 use Rattle.r3_formed.specs.Answers.{program_texts, text_of}

@@ -1,5 +1,5 @@
 -- Why a file is no store, and a store that was just opened.
-use Rattle.std.specs.Prelude.{◌≡◌, ◌⊎◌, ℕ, ◌+◌, List, [], ◌++◌, ◌∷◌, length, Bool, Option, Some, ⊤}
+use Rattle.std.specs.Prelude.{◌≡◌, ◌⊎◌, ℕ, List, [], length, Bool, Option, Some, ⊤}
 use Rattle.std.specs.Option.{ForSome}
 use Rattle.r3_gate.specs.Log.{IsLog, IsForeign, IsDamaged}
 use Rattle.r3_gate.specs.Gate.{Tracks}

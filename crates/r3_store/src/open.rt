@@ -1,6 +1,6 @@
 //! Opening a store.
 
-ghost use Rattle.std.specs.Prelude.{◌≡◌, ◌⊎◌, ◌<◌, [], length, List, ℕ, Err, Some, IfOk, IfErr, IsErrOf, IsErrAnd, MatchResult};
+ghost use Rattle.std.specs.Prelude.{◌≡◌, ◌⊎◌, ◌<◌, List, ℕ, Err, Some, IfOk, IfErr, IsErrOf, IsErrAnd, MatchResult};
 ghost use Rattle.std.specs.Option.{ForSome};
 ghost use Rattle.r3_desk.specs.Crash.{NothingPending};
 ghost use Rattle.r3_desk.specs.Causes.{Rose};
@@ -8,7 +8,6 @@ ghost use Rattle.r3_desk.specs.Moments.{LeavesImage};
 ghost use Rattle.r3_entry.specs.declared.entry.Entry.{Entry};
 ghost use Rattle.r3_entry.specs.Image.{IsHistoryOf};
 ghost use Rattle.r3_gate.specs.Log.{IsForeign, IsDamaged};
-ghost use Rattle.r3_formed.specs.Load.{Loads};
 ghost use Rattle.r3_store.specs.Opened.{Reads, IsUnformed, IsStopped, IsCaused, open_fault, formed_fault};
 
 use crate::fault::OpenFault;

@@ -1,4 +1,4 @@
-use Rattle.std.proofs.Common.{◌≡◌, ◌+◌, subst, List, Option}
+use Rattle.std.proofs.Common.{◌+◌, subst, List, Option}
 use Rattle.std.specs.Prelude.{IsTrue, ◌↔◌}
 use Rattle.std.specs.List.{AllByRecursion}
 use Rattle.r3_rows.specs.declared.rows.Key.{Key}

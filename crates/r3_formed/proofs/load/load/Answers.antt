@@ -1,6 +1,5 @@
-use Rattle.std.proofs.Common.{◌≡◌, ◌+◌, ◌++◌, ◌∷◌, [], Err, List, ℕ, length, ap, ◌∙◌, sym, subst, arith, length-append}
-use Rattle.r3_entry.specs.declared.entry.Entry.{Entry}
-use Rattle.r3_formed.specs.Load.{Loads, bytes_of}
+use Rattle.std.proofs.Common.{◌≡◌, ◌+◌, ◌++◌, ◌∷◌, [], Err, ap, arith, length-append}
+use Rattle.r3_formed.specs.Load.{bytes_of}
 use Rattle.r3_formed.specs.declared.fault.LoadFault.TheVariants as faults
 use Rattle.r3_formed.proofs.LoadLaws.{Next, next_in, done_in}
 use Rattle.r3_formed.proofs.load.load.Goals as goal

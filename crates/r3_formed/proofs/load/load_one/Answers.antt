@@ -1,11 +1,10 @@
-use Rattle.std.proofs.Common.{◌≡◌, ◌+◌, ◌++◌, ◌∷◌, [], Err, List, ℕ, length, ap, ◌∙◌, sym, subst, arith}
+use Rattle.std.proofs.Common.{◌≡◌, ◌+◌, ◌++◌, ◌∷◌, [], Err, length, ap, ◌∙◌, sym, subst, arith}
 use Rattle.r3_chain.specs.Versions.{Chains}
 use Rattle.r3_rows.specs.declared.rows.Key.{Key}
 use Rattle.r3_rows.specs.declared.rows.Cell.{Cell}
 use Rattle.r3_entry.specs.Bytes.{entry}
 use Rattle.r3_entry.specs.Limits.{IsEntry}
 use Rattle.r3_formed.specs.Past.{StandFor}
-use Rattle.r3_formed.specs.declared.fault.LoadFault.{LoadFault}
 use Rattle.r3_formed.specs.declared.fault.LoadFault.TheVariants as faults
 use Rattle.r3_formed.proofs.LoadLaws.{load_not, last_all, follows_last, kept_more, texts_more}
 use Rattle.r3_formed.proofs.load.load_one.Goals as goal

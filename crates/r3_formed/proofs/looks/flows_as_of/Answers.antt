@@ -1,5 +1,5 @@
-use Rattle.std.proofs.Common.{◌≡◌, ◌∙◌, ap, map, []}
-use Rattle.r3_rows.specs.declared.rows.Key.TheVariants.{Flow, Step}
+use Rattle.std.proofs.Common.{◌∙◌, ap, map, []}
+use Rattle.r3_rows.specs.declared.rows.Key.TheVariants.{Flow}
 use Rattle.r3_entry.specs.History.{Map}
 use Rattle.r3_chain.specs.Versions.{as_of}
 use Rattle.r3_formed.specs.Rules.{named_between}

@@ -1,10 +1,8 @@
-use Rattle.std.proofs.Common.{◌≡◌, sym, ap, ◌∙◌, subst, Option, ℕ, Some, None}
-use Rattle.std.specs.Prelude.{option_and_then, IsSome, IsTrue, ◌↔◌}
+use Rattle.std.proofs.Common.{ap, ◌∙◌, Option, ℕ}
+use Rattle.std.specs.Prelude.{option_and_then}
 use Rattle.std.specs.Option.{option_map}
 use Rattle.r3_rows.specs.declared.rows.Cell.{Cell}
-use Rattle.r3_chain.specs.Versions.{Version, present}
-use Rattle.r3_formed.specs.Rules.{cell_in}
-use Rattle.r3_chain.specs.Versions.{as_of}
+use Rattle.r3_chain.specs.Versions.{Version}
 use Rattle.r3_formed.specs.LookLaws.{found_in, cell_of}
 use Rattle.r3_formed.proofs.LookLemmas.{some_cell, none_cell}
 use Rattle.r3_formed.proofs.looks.is_present.Goals as goal

@@ -1,4 +1,4 @@
-use Rattle.std.proofs.Common.{◌≡◌, ◌∙◌, ap, map}
+use Rattle.std.proofs.Common.{◌∙◌, ap, map}
 use Rattle.r3_formed.specs.Answers.{name}
 use Rattle.r3_formed.proofs.LookLemmas.{named_range}
 use Rattle.r3_formed.proofs.looks.range_as_of.Goals as goal

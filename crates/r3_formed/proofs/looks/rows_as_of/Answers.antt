@@ -1,4 +1,4 @@
-use Rattle.std.proofs.Common.{◌≡◌, ◌∙◌, ap}
+use Rattle.std.proofs.Common.{◌∙◌, ap}
 use Rattle.r3_rows.specs.declared.rows.Key.TheVariants.{User}
 use Rattle.r3_entry.specs.History.{Map}
 use Rattle.r3_chain.specs.Versions.{as_of}

@@ -1,9 +1,8 @@
-use Rattle.std.proofs.Common.{◌≡◌, ◌⊎◌, List, ℕ, Err, map, ap, ◌∙◌, sym, subst, inl, inr, ⊎_elim, []}
+use Rattle.std.proofs.Common.{◌≡◌, ◌⊎◌, List, ℕ, Err, ap, ◌∙◌, sym, subst, inr, ⊎_elim, []}
 use Rattle.r3_gate.specs.Log.{IsLog}
 use Rattle.r3_gate.specs.Gate.{Tracks}
 use Rattle.r3_gate.specs.Payloads.{contents}
 use Rattle.r3_gate.specs.declared.fault.GateFault.TheVariants as gates
-use Rattle.r3_entry.specs.declared.entry.Entry.{Entry}
 use Rattle.r3_formed.specs.Load.{payloads, bytes_of, AreUnformed}
 use Rattle.r3_store.specs.Opened.{IsCaused, IsStopped, Reads}
 use Rattle.r3_store.specs.declared.fault.OpenFault.{OpenFault}

@@ -1,18 +1,16 @@
-use Rattle.std.proofs.Common.{◌≡◌, ◌⊎◌, ◌+◌, ◌<◌, ◌++◌, [], ◌∷◌, List, ℕ, length, take, drop, map, Ok, Err, Some, None, refl, sym, ap, subst, ◌∙◌, arith, inl, inr}
-use Rattle.std.specs.Prelude.{vec_len, vec_capacity}
+use Rattle.std.proofs.Common.{◌≡◌, ◌+◌, ◌++◌, [], ◌∷◌, List, ℕ, length, take, drop, map, Err, None, sym, ap, subst, ◌∙◌, arith}
 use Rattle.r3_entry.specs.declared.entry.Entry.{Entry}
 use Rattle.r3_rows.specs.Keys.{key_cmp}
 use Rattle.r3_chain.specs.Versions.{key_set}
 use Rattle.r3_entry.specs.Bytes.{entry, size}
 use Rattle.r3_gate.specs.Gate.{Tracks}
 use Rattle.r3_gate.specs.declared.gate.Gate.{Gate}
-use Rattle.r3_snap.specs.Conflicts.{keys_of, conflict_past}
+use Rattle.r3_snap.specs.Conflicts.{keys_of}
 use Rattle.r3_formed.specs.Past.{AreReady, StandFor, all_installed, first_conflict}
 use Rattle.r3_formed.specs.Load.{payloads}
-use Rattle.r3_store.specs.Holds.{Stands, Holds}
+use Rattle.r3_store.specs.Holds.{Holds}
 use Rattle.r3_formed.specs.Answers.{text_of, text_at}
 use Rattle.r3_store.specs.declared.store.Store.{Store}
-use Rattle.r3_store.specs.declared.fault.CommitFault.{CommitFault}
 use Rattle.r3_store.specs.declared.fault.CommitFault.TheVariants as faults
 use Rattle.r3_store.proofs.Images.{history_of_log}
 use Rattle.r3_store.proofs.OpenLaws.{entry_long}

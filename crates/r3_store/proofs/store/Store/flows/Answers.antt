@@ -1,4 +1,4 @@
-use Rattle.std.proofs.Common.{◌≡◌, ap, ◌∙◌, sym, inr, refl}
+use Rattle.std.proofs.Common.{ap, ◌∙◌, inr}
 use Rattle.std.specs.List.{filter_map}
 use Rattle.r3_entry.specs.History.{Map, map_at}
 use Rattle.r3_formed.specs.Answers.{flow_in}

@@ -1,4 +1,4 @@
-use Rattle.std.proofs.Common.{◌≡◌, ap, ◌∙◌, Option, ℕ}
+use Rattle.std.proofs.Common.{ap, ◌∙◌, Option, ℕ}
 use Rattle.std.specs.Option.{option_map}
 use Rattle.std.specs.Prelude.{option_and_then}
 use Rattle.r3_rows.specs.declared.rows.Cell.{Cell}

@@ -1,4 +1,4 @@
-use Rattle.std.proofs.Common.{◌≡◌, ◌++◌, [], ◌∷◌, List, ℕ, Err, sym, subst}
+use Rattle.std.proofs.Common.{◌≡◌, ◌++◌, [], ◌∷◌, List, ℕ, sym, subst}
 use Rattle.r3_entry.specs.declared.entry.Entry.{Entry}
 use Rattle.r3_store.specs.Holds.{Holds}
 use Rattle.r3_store.specs.declared.fault.CommitFault.TheVariants as faults

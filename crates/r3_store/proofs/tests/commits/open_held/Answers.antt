@@ -1,4 +1,4 @@
-use Rattle.std.proofs.Common.{◌≡◌, ℕ, List, length, inr, sym, subst, ◌∙◌}
+use Rattle.std.proofs.Common.{ℕ, List, length, inr, sym, subst, ◌∙◌}
 use Rattle.std.specs.Prelude.{Contains}
 use Rattle.std.proofs.lemmas.List.Elements.{Contains-push}
 use Rattle.r3_store.proofs.Carried.{holds_with}
