@@ -8,6 +8,7 @@
 mod fault;
 mod install;
 mod laws;
+mod limits;
 mod load;
 mod looks;
 mod rules;

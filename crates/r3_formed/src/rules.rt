@@ -1,24 +1,21 @@
 //! The rules of formed histories, for one entry behind those whose versions the chains keep.
 
-ghost use Rattle.std.specs.Prelude.{◌≡◌, ◌↔◌, ◌+◌, ◌<◌, ◌≤◌, ◌^◌, cond, IfOk, IsTrue, T, false, count_by, sum_by, List, length};
+ghost use Rattle.std.specs.Prelude.{◌≡◌, ◌↔◌, ◌+◌, ◌<◌, IfOk, IsTrue, T, false, List, length};
 ghost use Rattle.std.specs.List.{AllByRecursion};
 ghost use Rattle.std.specs.FinMap.Entries.{is_sorted};
 ghost use Rattle.r3_rows.specs.Keys.{key_cmp, kind};
 ghost use Rattle.r3_entry.specs.declared.entry.Entry.{Entry};
-ghost use Rattle.r3_entry.specs.Formed.{IsProgramFirst, IsOfKind, IsFlowRow, HasOutcome, is_program as is_program_act, is_user, read_count};
+ghost use Rattle.r3_entry.specs.Formed.{IsProgramFirst, IsOfKind, IsFlowRow, HasOutcome, is_program as is_program_act};
 ghost use Rattle.r3_chain.specs.Versions.{as_of};
 ghost use Rattle.r3_formed.specs.Rules.{IsWriteIn, FitsBehind, HasFlow, BeginsHistory, cell_kind};
 
+use crate::limits::{has_few_reads, has_few_rows};
 use crate::looks::{are_read_again, is_present, version_as_of};
 use r3_chain::Chains;
 use r3_entry::{Act, Entry};
-use r3_rows::{Cell, Key, Read, Status};
+use r3_rows::{Cell, Key, Status};
 use r3_value::{Memory, Outcome};
 use std::alloc::Global;
-
-const MAX_ROWS: usize = 1024;
-
-const MAX_READS: usize = 4096;
 
 fn is_program(act: &Act) -> bool
     ensures { result ≡ is_program_act act.now }
@@ -136,62 +133,6 @@ fn writes_fit(
 {
     'writes: for write in writes {
         if !write_fits(chains, count, snap, write) {
-            return false;
-        }
-    }
-    true
-}
-
-// A row counts 1.
-fn row_count(write: &(Key, Option<Cell>)) -> usize
-    ensures { result ≡ cond (is_user write.now) 1 0 }
-{
-    match &write.0 {
-        Key::User { table: _, key: _ } => 1,
-        Key::Flow { id: _ } => 0,
-        Key::Step { id: _, n: _ } => 0,
-    }
-}
-
-fn has_few_rows(writes: &[(Key, Option<Cell>)]) -> bool
-    ensures { IsTrue result ↔ (count_by is_user writes.now ≤ 1024) }
-{
-    let mut count = 0;
-    'writes: for write in writes {
-        count += row_count(write);
-        if count > MAX_ROWS {
-            return false;
-        }
-    }
-    true
-}
-
-fn count_of(read: &Read) -> usize
-    ensures value { result ≡ read_count read.now }
-    ensures small { result ≤ 2 ^ 63 }
-{
-    match read {
-        Read::At {
-            table: _,
-            key: _,
-            version: _,
-        } => 1,
-        Read::Range {
-            table: _,
-            lo: _,
-            hi: _,
-            keys,
-        } => 1 + keys.as_slice().len(),
-    }
-}
-
-fn has_few_reads(reads: &[Read]) -> bool
-    ensures { IsTrue result ↔ (sum_by read_count reads.now ≤ 4096) }
-{
-    let mut count = 0;
-    'reads: for read in reads {
-        count += count_of(read);
-        if count > MAX_READS {
             return false;
         }
     }
