@@ -30,7 +30,8 @@ fn fault_of(fault: GateFault) -> OpenFault
 }
 
 fn fault_of_load(fault: LoadFault) -> OpenFault
-    ensures { result ≡ formed_fault fault }
+    ensures same { result ≡ formed_fault fault }
+    ensures disk { result ≡ OpenFault.Disk → ⊥ }
 {
     match fault {
         LoadFault::NotFormed { entry } => OpenFault::NotFormed { entry },

@@ -71,7 +71,7 @@ returns-in-Ok-load-clause-on_unformed g c = λ k x told u.
 
 pub returns-clause-causes : goal.returns-clause-causes
 returns-clause-causes g c =
-    subst (IsCaused (g.D.Desk.image c.args.desk.now)) (sym c.fault_of_load.ensures)
+    subst (IsCaused (g.D.Desk.image c.args.desk.now)) (sym c.fault_of_load.ensures.same)
     (formed_caused (g.D.Desk.image c.args.desk.now) c.in-Err-load.fault
     (λ k e x told. record {
       all = contents c.in-Ok.opened.1.list;
@@ -82,7 +82,7 @@ returns-clause-causes g c =
 pub returns-clause-on_history : goal.returns-clause-on_history
 returns-clause-on_history g c = λ h x told is.
     let read : contents c.in-Ok.opened.1.list ≡ payloads h = ⊎_elim (λ s. s) (λ s. absurd (never_stopped _ s)) (c.in-Ok.ensures.on_log (payloads h) x told (log_of_history x h is)) in
-    subst IsStopped (sym c.fault_of_load.ensures)
+    subst IsStopped (sym c.fault_of_load.ensures.same)
     (formed_stop c.in-Err-load.fault
     (λ k e. not_both c.one_spelling.ensures c.beginnings_are_formed.ensures (bytes_of c.deref.result.now) k h (c.in-Err-load.ensures.not_formed k (ap Err e)) (formed_of_history x h is) (ap bytes_of c.deref.ensures.value ∙ read)))
 
@@ -95,7 +95,7 @@ returns-clause-on_damaged g c = λ k x told is. absurd (never_fault _ (gates.Dam
 pub returns-clause-on_unformed : goal.returns-clause-on_unformed
 returns-clause-on_unformed g c = λ k x told u.
     let read : contents c.in-Ok.opened.1.list ≡ u.all = ⊎_elim (λ s. s) (λ s. absurd (never_stopped _ s)) (c.in-Ok.ensures.on_log u.all x told u.log) in
-    subst (λ (f : OpenFault). (f ≡ faults.NotFormed k) ⊎ IsStopped f) (sym c.fault_of_load.ensures)
+    subst (λ (f : OpenFault). (f ≡ faults.NotFormed k) ⊎ IsStopped f) (sym c.fault_of_load.ensures.same)
     (formed_is c.in-Err-load.fault k
     (λ j e. one_unformed c.one_spelling.ensures c.beginnings_are_formed.ensures (bytes_of c.deref.result.now) j k (c.in-Err-load.ensures.not_formed j (ap Err e))
     (subst (λ (b : List (List ℕ)). AreUnformed b k) (sym (ap bytes_of c.deref.ensures.value ∙ read)) u.unformed)))
