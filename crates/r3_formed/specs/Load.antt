@@ -8,7 +8,7 @@ use Rattle.r3_entry.specs.Bytes.{entry}
 use Rattle.r3_entry.specs.Formed.{IsFormed}
 use Rattle.r3_formed.specs.Past.{StandFor}
 use Rattle.r3_formed.specs.Answers.{program_texts, text_of}
-use Rattle.r3_formed.specs.declared.load.Loaded.{Loaded}
+use Rattle.r3_formed.specs.declared.loading.Loaded.{Loaded}
 use Rattle.r3_formed.specs.declared.fault.LoadFault.{LoadFault}
 use Rattle.r3_formed.specs.declared.fault.LoadFault.TheVariants as faults
 

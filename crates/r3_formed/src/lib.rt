@@ -9,7 +9,7 @@ mod fault;
 mod install;
 mod laws;
 mod limits;
-mod load;
+mod loading;
 mod looks;
 mod rules;
 #[cfg(test)]
@@ -18,6 +18,6 @@ mod tests;
 pub use fault::LoadFault;
 pub use install::{install_all, make_room};
 pub use laws::{first_conflict_is, first_write_is, history_goes_on, trimmed_stand};
-pub use load::{Loaded, load, put_text};
+pub use loading::{Loaded, load, put_text};
 pub use looks::{flows_as_of, texts_between};
 pub use rules::is_program_first;

@@ -23,7 +23,7 @@ use Rattle.r3_formed.specs.Load.{payloads, AreUnformed}
 use Rattle.r3_formed.specs.Past.{StandFor}
 use Rattle.r3_formed.specs.Answers.{text_of}
 use Rattle.r3_store.specs.Opened.{IsUnformed, IsStopped, IsCaused, open_fault, formed_fault, Reads, Opens}
-use Rattle.r3_formed.specs.declared.load.Loaded.{Loaded}
+use Rattle.r3_formed.specs.declared.loading.Loaded.{Loaded}
 use Rattle.r3_store.specs.declared.store.Store.{Store}
 use Rattle.r3_store.specs.declared.fault.OpenFault.TheVariants as faults
 use Rattle.r3_formed.specs.declared.fault.LoadFault.{LoadFault}

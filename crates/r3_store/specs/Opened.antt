@@ -8,7 +8,7 @@ use Rattle.r3_entry.specs.declared.entry.Entry.{Entry}
 use Rattle.r3_entry.specs.Image.{IsHistoryOf}
 use Rattle.r3_store.specs.Holds.{Holds}
 use Rattle.r3_formed.specs.Load.{Loads, AreUnformed, payloads}
-use Rattle.r3_formed.specs.declared.load.Loaded.{Loaded}
+use Rattle.r3_formed.specs.declared.loading.Loaded.{Loaded}
 use Rattle.r3_store.specs.declared.store.Store.{Store}
 use Rattle.r3_store.specs.declared.fault.OpenFault.{OpenFault}
 use Rattle.r3_store.specs.declared.fault.OpenFault.TheVariants as faults

@@ -6,7 +6,7 @@ use Rattle.r3_rows.specs.declared.rows.Cell.{Cell}
 use Rattle.r3_chain.specs.Versions.{as_of}
 use Rattle.r3_formed.specs.Rules.{HasFlow}
 use Rattle.r3_formed.proofs.RuleLaws.{not_fitting, stands_on, admitted}
-use Rattle.r3_formed.proofs.load.admit.Goals as goal
+use Rattle.r3_formed.proofs.loading.admit.Goals as goal
 
 pub returns-then-not-branch-clause-follows : goal.returns-then-not-branch-clause-follows
 returns-then-not-branch-clause-follows c = λ h same stand.

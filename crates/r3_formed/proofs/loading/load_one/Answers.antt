@@ -7,7 +7,7 @@ use Rattle.r3_entry.specs.Limits.{IsEntry}
 use Rattle.r3_formed.specs.Past.{StandFor}
 use Rattle.r3_formed.specs.declared.fault.LoadFault.TheVariants as faults
 use Rattle.r3_formed.proofs.LoadLaws.{load_not, last_all, follows_last, kept_more, texts_more}
-use Rattle.r3_formed.proofs.load.load_one.Goals as goal
+use Rattle.r3_formed.proofs.loading.load_one.Goals as goal
 
 pub returns-in-Err-clause-unformed : goal.returns-in-Err-clause-unformed
 returns-in-Err-clause-unformed c = λ h same loads k is.

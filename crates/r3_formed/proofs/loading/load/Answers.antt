@@ -2,7 +2,7 @@ use Rattle.std.proofs.Common.{◌≡◌, ◌+◌, ◌++◌, ◌∷◌, [], Err, 
 use Rattle.r3_formed.specs.Load.{bytes_of}
 use Rattle.r3_formed.specs.declared.fault.LoadFault.TheVariants as faults
 use Rattle.r3_formed.proofs.LoadLaws.{Next, next_in, done_in}
-use Rattle.r3_formed.proofs.load.load.Goals as goal
+use Rattle.r3_formed.proofs.loading.load.Goals as goal
 
 pub load_one-requires-clause-bytes : goal.load_one-requires-clause-bytes
 load_one-requires-clause-bytes c =

@@ -1,6 +1,6 @@
 use Rattle.std.proofs.Common.{◌≡◌, ◌++◌, [], List, ℕ, ap, ◌∙◌, sym, subst}
 use Rattle.r3_entry.specs.Formed.{Follows}
-use Rattle.r3_formed.proofs.load.add_entry.Goals as goal
+use Rattle.r3_formed.proofs.loading.add_entry.Goals as goal
 
 pub returns-in-Ok-false-clause-unformed : goal.returns-in-Ok-false-clause-unformed
 returns-in-Ok-false-clause-unformed c = λ h same stand _ e is limits follows.
