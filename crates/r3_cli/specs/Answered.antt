@@ -33,8 +33,8 @@ pub record Says {D : Type 0} (told_image : D → Option Text) (said : D → Opti
   pub stored : told_image now ≡ told_image from
 
 -- The machine's call on this history with these lines was done: its replies were said, with this line behind them,
--- its calls were asked, and its history is stored.
-pub record Answered {D : Type 0} (told_image : D → Option Text) (moment : D → ℕ) (reach : D → Reach) (said : D → Option Text) (asked : D → Option (List desk.Call)) (from now : D) (P : Language) (text : Text) (h : List Entry) (lines : List Line) (line : Text) : Type 0 where
+-- its calls were asked, and its history is stored. A crash now leaves all of it.
+pub record Answered {D : Type 0} (told_image : D → Option Text) (may_leave : D → Text → Type 0) (moment : D → ℕ) (reach : D → Reach) (said : D → Option Text) (asked : D → Option (List desk.Call)) (from now : D) (P : Language) (text : Text) (h : List Entry) (lines : List Line) (line : Text) : Type 0 where
   pub calls : List Call
   pub marks : List Mark
   pub after : State
@@ -43,4 +43,5 @@ pub record Answered {D : Type 0} (told_image : D → Option Text) (moment : D �
   pub told : said now ≡ told_push (said from) (said_of Loud replies ++ line)
   pub asks : asked now ≡ told_after (asked from) calls
   pub stored : ForSome (told_image now) (IsHistoryOf after.history)
+  pub settled : (image : Text) → may_leave now image → IsHistoryOf after.history image
   pub leaves : LeavesPrefix moment reach said asked from now after.history (length h) marks

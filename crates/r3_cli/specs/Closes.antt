@@ -12,6 +12,7 @@ pub record SaysLast {D : Type 0} (told_image : D → Option Text) (may_leave : D
   pub line : Text
   pub rest : Text
   pub cut : line ++ rest ≡ last_line halt
+  pub spoken : last_line halt ≡ [] → ⊥
   pub says : Says told_image said asked from now line
   pub answers : ((answer ≡ status_of halt) × (rest ≡ [])) ⊎ (answer ≡ 5)
   pub pending : (image : Text) → may_leave now image → may_leave from image

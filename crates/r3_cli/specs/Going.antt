@@ -1,5 +1,5 @@
 -- However a call has ended that began on a history: how far it has come, and what a crash leaves.
-use Rattle.std.specs.Prelude.{◌≡◌, ◌⊎◌, ℕ, ◌<◌, ◌^◌, List, [], ◌∷◌, ◌++◌, length, take, Option}
+use Rattle.std.specs.Prelude.{◌≡◌, ◌⊎◌, ℕ, ◌<◌, ◌^◌, List, [], ◌∷◌, ◌++◌, length, take, Option, Some}
 use Rattle.fn_tree.specs.declared.program.Item.{Item}
 use Rattle.r3_entry.specs.declared.entry.Entry.{Entry}
 use Rattle.r3_desk.specs.Asked as desk
@@ -14,6 +14,7 @@ use Rattle.r3_cli.specs.Functions.{IsAccepted}
 use Rattle.r3_cli.specs.Statuses.{last_line}
 use Rattle.r3_cli.specs.Answered.{Says, Answered, LeavesPrefix}
 use Rattle.r3_cli.specs.declared.halt.Halt.{Halt}
+use Rattle.r3_cli.specs.declared.halt.Halt.TheVariants as halts
 
 -- some last line, or a first part of one
 abbrev pub IsCut : Text → Type 0
@@ -26,7 +27,7 @@ pub record Unbegun {D : Type 0} (told_image : D → Option Text) (moment : D →
   pub says : Says told_image said asked from now line
   pub leaves : LeavesPrefix moment reach said asked from now h (length h) []
 
-module _ {D : Type 0} (told_image : D → Option Text) (moment : D → ℕ) (reach : D → Reach) (said : D → Option Text) (asked : D → Option (List desk.Call)) (from now : D) where
+module _ {D : Type 0} (told_image : D → Option Text) (may_leave : D → Text → Type 0) (moment : D → ℕ) (reach : D → Reach) (said : D → Option Text) (asked : D → Option (List desk.Call)) (from now : D) where
   -- the opening ended early, and no line was answered
   abbrev pub Opening : Language → Text → List Entry → Type 0
   Opening P text h =
@@ -36,7 +37,7 @@ module _ {D : Type 0} (told_image : D → Option Text) (moment : D → ℕ) (rea
   abbrev pub Within : Language → Text → List Entry → List Line → Type 0
   Within P text h lines =
       (done : List Line) × (later : List Line) × (lines ≡ done ++ later)
-      × (Answered told_image moment reach said asked from now P text h done []
+      × (Answered told_image may_leave moment reach said asked from now P text h done []
       ⊎ ((line : Line) × (more : List Line) × (later ≡ line ∷ more)
       × Stopped told_image moment reach said asked from now P Loud text h done line))
 
@@ -44,16 +45,34 @@ module _ {D : Type 0} (told_image : D → Option Text) (moment : D → ℕ) (rea
   abbrev pub CutOff : Language → Text → List Entry → Text → Type 0
   CutOff P text h script =
       (2 ^ 26 < length script) × (line : Text) × IsCut line
-      × Answered told_image moment reach said asked from now P text h (ended_script_lines (take (2 ^ 26) script)) line
+      × Answered told_image may_leave moment reach said asked from now P text h (ended_script_lines (take (2 ^ 26) script)) line
+
+  -- no line was answered
+  abbrev pub NotBegun : Text → List Entry → Type 0
+  NotBegun text h =
+      Unbegun told_image moment reach said asked from now h
+      ⊎ ((items : List Item) × IsAccepted text items × Opening (language_of items) text h)
+
+  -- a script that is too long was cut off
+  abbrev pub IsCutOff : Text → List Entry → Text → Type 0
+  IsCutOff text h script = (items : List Item) × IsAccepted text items × CutOff (language_of items) text h script
 
   abbrev pub RunGoes : Text → List Entry → Text → Type 0
   RunGoes text h script =
-      Unbegun told_image moment reach said asked from now h
-      ⊎ ((items : List Item) × IsAccepted text items
-      × (Opening (language_of items) text h ⊎ Within (language_of items) text h (script_lines script) ⊎ CutOff (language_of items) text h script))
+      NotBegun text h ⊎ IsCutOff text h script
+      ⊎ ((items : List Item) × IsAccepted text items × Within (language_of items) text h (script_lines script))
 
   abbrev pub RecoverGoes : Text → List Entry → ℕ → Type 0
   RecoverGoes text h turns =
-      Unbegun told_image moment reach said asked from now h
-      ⊎ ((items : List Item) × IsAccepted text items
-      × (Opening (language_of items) text h ⊎ Within (language_of items) text h (Drain turns ∷ [])))
+      NotBegun text h
+      ⊎ ((items : List Item) × IsAccepted text items × Within (language_of items) text h (Drain turns ∷ []))
+
+-- what has gone before a last line: nothing, where the function file is refused; a script that is too long; else none is said
+abbrev pub Before : Type 0 → Type 0 → Type 0 → Option Halt → Type 0
+Before Nothing Cut Goes (Some halts.Usage) = ⊥
+Before Nothing Cut Goes (Some (halts.Functions fault)) = Nothing
+Before Nothing Cut Goes (Some (halts.Store entry)) = ⊥
+Before Nothing Cut Goes (Some halts.Program) = ⊥
+Before Nothing Cut Goes (Some halts.LongFile) = Nothing
+Before Nothing Cut Goes (Some halts.LongScript) = Cut
+Before Nothing Cut Goes end = Goes

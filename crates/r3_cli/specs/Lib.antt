@@ -7,3 +7,4 @@ pub mod Answered
 pub mod Going
 pub mod Ends
 pub mod Closes
+pub mod Causes

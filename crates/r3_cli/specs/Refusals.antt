@@ -1,5 +1,6 @@
 -- What a call is refused for before it has changed anything.
 use Rattle.std.specs.Prelude.{◌≡◌, ℕ, ◌<◌, ◌≤◌, ◌^◌, List, length, Option, Some, None, ⊤}
+use Rattle.std.specs.Option.{ForSome}
 use Rattle.fn_tree.specs.declared.program.Item.{Item}
 use Rattle.r3_entry.specs.declared.entry.Entry.{Entry}
 use Rattle.r3_entry.specs.Image.{IsHistoryOf, IsAccepted as IsStore}
@@ -24,16 +25,30 @@ abbrev pub IsFile : Text → List Item → Type 0
 IsFile text items = (length text ≤ 2 ^ 20) × IsAccepted text items
 
 -- the image is no store, and this entry is the cause: the first that is damaged, else the first that isn't formed
-abbrev pub IsNoStore : Text → ℕ → Type 0
+abbrev pub IsNoStore : Option Text → ℕ → Type 0
 IsNoStore image entry =
-    (IsStore image → ⊥) × (fault : OpenFault) × IsCaused (Some image) fault × (IsStopped fault → ⊥) × (entry ≡ entry_of fault)
+    ForSome image (λ i. IsStore i → ⊥) × (fault : OpenFault) × IsCaused image fault × (IsStopped fault → ⊥) × (entry ≡ entry_of fault)
 
 -- it is a store that was begun with another program
-abbrev pub IsOthers : Text → Text → Type 0
-IsOthers text image = IsStore image × ((h : List Entry) → IsHistoryOf h image → HasProgram h text → ⊥)
+abbrev pub IsOthers : Text → Option Text → Type 0
+IsOthers text image = ForSome image (λ i. IsStore i × ((h : List Entry) → IsHistoryOf h i → HasProgram h text → ⊥))
 
--- what a call on a store is refused for: the function file comes first
-abbrev pub IsRefusal : Text → Text → Option Halt → Type 0
+-- What a call on a store is refused for. The function file comes first.
+abbrev pub IsRefusal : Text → Option Text → Option Halt → Type 0
 IsRefusal text image (Some (halts.Store entry)) = ((items : List Item) × IsFile text items) × IsNoStore image entry
 IsRefusal text image (Some halts.Program) = ((items : List Item) × IsFile text items) × IsOthers text image
 IsRefusal text image end = IsFileRefusal text end
+
+-- the functions are those of the file, and the store holds this history, begun with them
+pub record IsOpened (text : Text) (image : Option Text) (items : List Item) (h : List Entry) : Type 0 where
+  pub file : IsFile text items
+  pub history : ForSome image (IsHistoryOf h)
+  pub program : HasProgram h text
+
+-- what halts a call before its work
+abbrev pub IsEarly : Halt → Type 0
+IsEarly halts.Usage = ⊥
+IsEarly halts.Say = ⊥
+IsEarly halts.Script = ⊥
+IsEarly halts.LongScript = ⊥
+IsEarly halt = ⊤
