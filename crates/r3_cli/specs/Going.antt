@@ -2,6 +2,7 @@
 use Rattle.std.specs.Prelude.{◌≡◌, ◌⊎◌, ℕ, ◌<◌, ◌^◌, List, [], ◌∷◌, ◌++◌, length, take, Option, Some}
 use Rattle.fn_tree.specs.declared.program.Item.{Item}
 use Rattle.r3_entry.specs.declared.entry.Entry.{Entry}
+use Rattle.r3_entry.specs.Image.{IsHistoryOf}
 use Rattle.r3_desk.specs.Asked as desk
 use Rattle.r3_desk.specs.Crash.{Reach}
 use Rattle.r3_model.specs.Functions.{language_of}
@@ -20,11 +21,10 @@ use Rattle.r3_cli.specs.declared.halt.Halt.TheVariants as halts
 abbrev pub IsCut : Text → Type 0
 IsCut line = (halt : Halt) × (rest : Text) × (line ++ rest ≡ last_line halt)
 
--- Nothing was done of it: at most a last line was said, or a part of one.
-pub record Unbegun {D : Type 0} (told_image : D → Option Text) (moment : D → ℕ) (reach : D → Reach) (said : D → Option Text) (asked : D → Option (List desk.Call)) (from now : D) (h : List Entry) : Type 0 where
-  pub line : Text
-  pub cut : IsCut line
+-- Nothing was done of it: at most this line was said. A crash now leaves the history as it was.
+pub record Unbegun {D : Type 0} (told_image : D → Option Text) (may_leave : D → Text → Type 0) (moment : D → ℕ) (reach : D → Reach) (said : D → Option Text) (asked : D → Option (List desk.Call)) (from now : D) (h : List Entry) (line : Text) : Type 0 where
   pub says : Says told_image said asked from now line
+  pub settled : (image : Text) → may_leave now image → IsHistoryOf h image
   pub leaves : LeavesPrefix moment reach said asked from now h (length h) []
 
 module _ {D : Type 0} (told_image : D → Option Text) (may_leave : D → Text → Type 0) (moment : D → ℕ) (reach : D → Reach) (said : D → Option Text) (asked : D → Option (List desk.Call)) (from now : D) where
@@ -50,7 +50,7 @@ module _ {D : Type 0} (told_image : D → Option Text) (may_leave : D → Text �
   -- no line was answered
   abbrev pub NotBegun : Text → List Entry → Type 0
   NotBegun text h =
-      Unbegun told_image moment reach said asked from now h
+      ((line : Text) × IsCut line × Unbegun told_image may_leave moment reach said asked from now h line)
       ⊎ ((items : List Item) × IsAccepted text items × Opening (language_of items) text h)
 
   -- a script that is too long was cut off

@@ -1,6 +1,6 @@
 //! The function file and the store of a command.
 
-ghost use Rattle.std.specs.Prelude.{◌≡◌, ◌⊎◌, ◌×◌, List, [], false, Err, Some, IfOk, IfErr};
+ghost use Rattle.std.specs.Prelude.{◌≡◌, ◌⊎◌, List, [], false, Err, Some, IfOk, IfErr};
 ghost use Rattle.std.specs.Option.{ForSome};
 ghost use Rattle.r3_desk.specs.Causes.{Rose};
 ghost use Rattle.r3_desk.specs.Crash.{NothingPending};
@@ -42,7 +42,7 @@ pub fn begin<D: Desk, F: Shelf>(
     // Where the store is this program's, nothing was done, or the opening may not be settled.
     ensures goes { (text image : Text) (h : List Entry) → F.text_of shelf.old path.now ≡ Some text →
         D.image desk.old ≡ Some image → IsHistoryOf h image → HasProgram h text →
-        IfErr result (λ halt. Before (Unbegun D.image D.moment D.reach D.said D.asked desk.old desk.new h) ⊥
+        IfErr result (λ halt. Before (Unbegun D.image D.may_leave D.moment D.reach D.said D.asked desk.old desk.new h []) ⊥
         (NotBegun D.image D.may_leave D.moment D.reach D.said D.asked desk.old desk.new text h) (Some halt)) }
     ensures early { IfErr result IsEarly }
     ensures disk { result ≡ Err Halt.Disk → Rose (D.disk_faults desk.old) (D.disk_faults desk.new) }

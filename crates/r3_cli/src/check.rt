@@ -1,8 +1,10 @@
 //! The command `check`.
 
-ghost use Rattle.std.specs.Prelude.{◌≡◌, ◌⊎◌, [], Err, Some};
+ghost use Rattle.std.specs.Prelude.{◌≡◌, ◌⊎◌, [], Err, Option, Some, IfErr};
 ghost use Rattle.r3_desk.specs.Causes.{Rose};
 ghost use Rattle.r3_model.specs.Language.{Text};
+ghost use Rattle.r3_words.specs.Forms.{check as check_form};
+ghost use Rattle.r3_cli.specs.Causes.{HasCause};
 ghost use Rattle.r3_cli.specs.Statuses.{IsBroken};
 ghost use Rattle.r3_cli.specs.Ends.{CheckComes, end_of};
 
@@ -21,6 +23,8 @@ pub fn check<D: Desk, F: Shelf>(
 ) -> Result<(), Halt>
     ensures comes { (text : Text) → F.text_of shelf.old path.now ≡ Some text →
         IsBroken (end_of result) ⊎ CheckComes D.image D.said D.asked desk.old desk.new text (end_of result) [] }
+    ensures causes { (text : Text) (image left : Option Text) → F.text_of shelf.old path.now ≡ Some text →
+        IfErr result (HasCause (check_form path.now) text image left) }
     ensures image { D.image desk.new ≡ D.image desk.old }
     ensures disk_faults { D.disk_faults desk.new ≡ D.disk_faults desk.old }
     ensures disk { result ≡ Err Halt.Disk → ⊥ }

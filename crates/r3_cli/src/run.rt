@@ -1,12 +1,14 @@
 //! The commands on a store.
 
-ghost use Rattle.std.specs.Prelude.{◌≡◌, ◌⊎◌, ◌≤◌, true, List, [], Err, Some, OnOk};
+ghost use Rattle.std.specs.Prelude.{◌≡◌, ◌⊎◌, ◌≤◌, true, List, [], Err, Option, Some, IfErr, OnOk};
 ghost use Rattle.r3_desk.specs.Causes.{Rose};
 ghost use Rattle.r3_desk.specs.Crash.{NothingPending};
 ghost use Rattle.r3_entry.specs.declared.entry.Entry.{Entry};
 ghost use Rattle.r3_entry.specs.Image.{IsHistoryOf};
 ghost use Rattle.r3_model.specs.Language.{Text};
 ghost use Rattle.r3_recover.specs.Opened.{HasProgram};
+ghost use Rattle.r3_words.specs.Forms.{run as run_form, recover as recover_form};
+ghost use Rattle.r3_cli.specs.Causes.{HasCause};
 ghost use Rattle.r3_cli.specs.Statuses.{IsBroken};
 ghost use Rattle.r3_cli.specs.Going.{Before, IsCutOff, RecoverGoes, RunGoes, Unbegun};
 ghost use Rattle.r3_cli.specs.Ends.{RecoverComes, RunComes, end_of};
@@ -38,9 +40,11 @@ pub fn run<D: Desk, S: Source, F: Shelf>(
         (S.left source.old) (S.left source.new) text (end_of result) [] }
     ensures goes { (text image script : Text) (h : List Entry) → F.text_of shelf.old path.now ≡ Some text →
         D.image desk.old ≡ Some image → S.left source.old ≡ Some script → IsHistoryOf h image → HasProgram h text →
-        Before (Unbegun D.image D.moment D.reach D.said D.asked desk.old desk.new h)
+        Before (Unbegun D.image D.may_leave D.moment D.reach D.said D.asked desk.old desk.new h [])
         (IsCutOff D.image D.may_leave D.moment D.reach D.said D.asked desk.old desk.new text h script)
         (RunGoes D.image D.may_leave D.moment D.reach D.said D.asked desk.old desk.new text h script) (end_of result) }
+    ensures causes { (text : Text) → F.text_of shelf.old path.now ≡ Some text →
+        IfErr result (HasCause (run_form path.now) text (D.image desk.old) (S.left source.old)) }
     ensures ended { OnOk result (S.ended source.new ≡ true) }
     ensures usage { result ≡ Err Halt.Usage → ⊥ }
     ensures disk { result ≡ Err Halt.Disk → Rose (D.disk_faults desk.old) (D.disk_faults desk.new) }
@@ -85,8 +89,10 @@ pub fn recover<D: Desk, F: Shelf>(
         IsBroken (end_of result) ⊎ RecoverComes D.image D.may_leave D.moment D.reach D.said D.asked desk.old desk.new turns text (end_of result) [] }
     ensures goes { (text image : Text) (h : List Entry) → F.text_of shelf.old path.now ≡ Some text →
         D.image desk.old ≡ Some image → IsHistoryOf h image → HasProgram h text →
-        Before (Unbegun D.image D.moment D.reach D.said D.asked desk.old desk.new h) ⊥
+        Before (Unbegun D.image D.may_leave D.moment D.reach D.said D.asked desk.old desk.new h []) ⊥
         (RecoverGoes D.image D.may_leave D.moment D.reach D.said D.asked desk.old desk.new text h turns) (end_of result) }
+    ensures causes { (text : Text) (left : Option Text) → F.text_of shelf.old path.now ≡ Some text →
+        IfErr result (HasCause (recover_form path.now turns) text (D.image desk.old) left) }
     ensures usage { result ≡ Err Halt.Usage → ⊥ }
     ensures script { result ≡ Err Halt.Script → ⊥ }
     ensures disk { result ≡ Err Halt.Disk → Rose (D.disk_faults desk.old) (D.disk_faults desk.new) }

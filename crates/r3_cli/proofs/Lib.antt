@@ -1,0 +1,6 @@
+pub mod Saying
+pub mod Leaving
+pub mod Working
+pub mod Refusing
+pub mod Causing
+pub mod Closing
