@@ -17,6 +17,7 @@ that stands there is answered from there and not done again. --delay waits betwe
 """
 import json
 import os
+import signal
 import sys
 import time
 
@@ -86,13 +87,17 @@ def main():
     calls, answers = store + ".out", store + ".in"
     place = os.path.getsize(calls) if os.path.exists(calls) else 0
     book = Book(store + ".book", Bank())
+    signal.signal(signal.SIGTERM, lambda *_: sys.exit(0))
     os.mkfifo(answers)
-    # Open at both ends, so that the program never finds the end of the answers while this runs.
-    pipe = os.open(answers, os.O_RDWR)
-    for line in lines_from(calls, place):
-        answer = book.answer(json.loads(line))
-        time.sleep(delay)
-        os.write(pipe, compact(answer).encode())
+    try:
+        # Open at both ends, so that the program never finds the end of the answers while this runs.
+        pipe = os.open(answers, os.O_RDWR)
+        for line in lines_from(calls, place):
+            answer = book.answer(json.loads(line))
+            time.sleep(delay)
+            os.write(pipe, compact(answer).encode())
+    finally:
+        os.unlink(answers)
 
 
 if __name__ == "__main__":
