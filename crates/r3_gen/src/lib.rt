@@ -9,15 +9,15 @@
 mod bank;
 mod draws;
 mod fault;
-mod generate;
 mod lines;
-mod run;
+mod running;
+mod script;
 mod summary;
 
 pub use bank::BANK;
 pub use fault::GenFault;
-pub use generate::generate;
-pub use run::{run, run_opened};
+pub use running::{run, run_opened};
+pub use script::generate;
 pub use summary::summary_of;
 
 #[cfg(test)]

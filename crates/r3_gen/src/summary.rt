@@ -50,18 +50,18 @@ fn successes(alloc: Global, exec: &Exec, count: u32) -> Result<u32, Memory>
 }
 
 // A row that is no Int counts nothing.
-fn amount(value: Option<&Val>) -> i128
+fn amount(value: Option<&Val>) -> i64
     ensures { result ≡ amount (option_copied value) }
 {
     match value {
-        Some(Val::Int(n)) => i128::from(*n),
+        Some(Val::Int(n)) => *n,
         _ => 0,
     }
 }
 
-fn amount_of(alloc: Global, exec: &Exec, i: u32) -> Result<i128, Memory>
+fn amount_of(alloc: Global, exec: &Exec, i: u32) -> Result<i64, Memory>
     requires { (st : State) × Stands exec.now st }
-    ensures amount { (st : State) → Stands exec.now st →
+    ensures { (st : State) → Stands exec.now st →
         IfOk result (λ z. z ≡ amount (row_at st.history (length st.history) (codes "acct") (account i))) }
 {
     let key = account(alloc, i)?;
@@ -76,7 +76,7 @@ fn total(alloc: Global, exec: &Exec) -> Result<i128, Memory>
 {
     let mut sum = 0;
     'accounts: for i in 0..ACCOUNTS {
-        sum += amount_of(alloc, exec, i)?;
+        sum += i128::from(amount_of(alloc, exec, i)?);
     }
     Ok(sum)
 }

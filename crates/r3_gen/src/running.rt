@@ -17,7 +17,7 @@ ghost use Rattle.r3_serve.specs.Served.{Quiet, Served};
 ghost use Rattle.r3_gen.specs.Ran.{Ran, EndsEarly};
 
 use crate::fault::GenFault;
-use crate::generate::generate;
+use crate::script::generate;
 use crate::summary::summary_of;
 use fn_tree::checked::Checked;
 use r3_desk::Desk;

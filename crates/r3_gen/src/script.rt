@@ -1,11 +1,11 @@
 //! The script, run over a session.
 
-ghost use Rattle.std.specs.Prelude.{◌≡◌, ◌+◌, ◌^◌, ◌<◌, List, ◌∷◌, ◌++◌, false, OnOk, OnErr, IsErrOf};
+ghost use Rattle.std.specs.Prelude.{◌≡◌, ◌+◌, ◌^◌, ◌<◌, List, [], ◌∷◌, ◌++◌, false, if◌then◌else◌, OnOk, OnErr, IsErrOf};
 ghost use Rattle.r3_desk.specs.Causes.{Rose};
 ghost use Rattle.r3_entry.specs.declared.entry.Entry.{Entry};
 ghost use Rattle.r3_model.specs.Generator.{drawn, drain_after, transfers, generated};
 ghost use Rattle.r3_model.specs.Language.{Text};
-ghost use Rattle.r3_model.specs.Script.{Line as L};
+ghost use Rattle.r3_model.specs.Script.{Line as L, Drain};
 ghost use Rattle.r3_serve.specs.Served.{Quiet, Served};
 ghost use Rattle.r3_gen.specs.Ran.{StoppedAmong, one_transfer};
 
@@ -22,7 +22,15 @@ const TURNS: u32 = 1000;
 // Drains follow each of so many starts.
 const STARTS: u32 = 8;
 
-// The drain behind a start of which so many are left behind it, where there is one.
+// Whether a drain is behind a start of which so many are left behind it.
+fn has_drain(i: u32, left: u32) -> bool
+    requires { i + left + 1 < 2 ^ 32 }
+    ensures { drain_after i left ≡ (if result then Drain 1000 ∷ [] else []) }
+{
+    left == 0 || (i + 1) % STARTS == 0
+}
+
+// The drain behind a start, where there is one.
 fn settle<D: Desk>(
     alloc: Global,
     session: &mut Session,
@@ -48,7 +56,7 @@ fn settle<D: Desk>(
     ensures said { D.said desk.new ≡ D.said desk.old }
     ensures say_faults { D.say_faults desk.new ≡ D.say_faults desk.old }
 {
-    if left > 0 && (i + 1) % STARTS != 0 {
+    if !has_drain(i, left) {
         return Ok(());
     }
     enact(alloc, session, desk, &Line::Drain { turns: TURNS })
