@@ -1,5 +1,6 @@
 -- Lines that are answered one after another, and where they end early.
 use Rattle.std.proofs.Common.{◌≡◌, ◌⊎◌, inl, inr, ⊎_elim, ℕ, suc, ◌+◌, ◌-◌, ◌<◌, ◌≤◌, List, [], ◌∷◌, ◌++◌, Option, refl, sym, ap, ◌∙◌, subst, arith, append-nil}
+use Rattle.std.specs.Prelude.{Result, Ok, Err, IfOk, OnOk, OnErr}
 use Rattle.std.proofs.lemmas.List.{append_assoc}
 use Rattle.r3_entry.specs.declared.entry.Entry.{Entry}
 use Rattle.r3_desk.specs.Asked as desk
@@ -11,6 +12,18 @@ use Rattle.r3_exec.specs.Runs.{language}
 use Rattle.r3_exec.specs.declared.exec.Exec.{Exec}
 use Rattle.r3_serve.specs.Served.{Quiet, Served, Stopped}
 use Rattle.r3_gen.specs.Ran.{StoppedAmong, one_transfer}
+
+pub on-ok : {T E : Type 0} (r : Result T E) (P Q : Type 0) → (P → Q) → OnOk r P → OnOk r Q
+on-ok (Ok x) P Q f p = f p
+on-ok (Err e) P Q f p = tt
+
+pub on-err : {T E : Type 0} (r : Result T E) (P Q : Type 0) → (P → Q) → OnErr r P → OnErr r Q
+on-err (Ok x) P Q f p = tt
+on-err (Err e) P Q f p = f p
+
+pub if-ok : {T E : Type 0} (r : Result T E) (A B : T → Type 0) → ((x : T) → A x → B x) → IfOk r A → IfOk r B
+if-ok (Ok x) A B f a = f x a
+if-ok (Err e) A B f a = tt
 
 module _ {D : Type 0} (told_size : D → Option ℕ) (told_image : D → Option (List ℕ)) (may_leave : D → List ℕ → Type 0) (moment : D → ℕ) (reach : D → Reach) (said : D → Option (List ℕ)) (asked : D → Option (List desk.Call)) where
   abbrev pub IsServed : D → D → Exec → Text → List Entry → List Line → Type 0
@@ -89,6 +102,27 @@ module _ {D : Type 0} (told_size : D → Option ℕ) (told_image : D → Option 
 
   pub answers-same : (a b : D) (x y : Exec) (lines all : List Line) → all ≡ lines → Answers a b x y lines → Answers a b x y all
   answers-same a b x y lines all is f = subst (λ (ls : List Line). Answers a b x y ls) (sym is) f
+
+  -- one line, and then more
+  pub answers-one : (from now : D) (exec : Exec) (text : Text) (h : List Entry) (first : List Line) (line one : Line) (more : List Line) → line ≡ one
+      → IsServed from now exec text h ((first ++ line ∷ []) ++ more) → IsServed from now exec text h (first ++ (one ∷ more))
+  answers-one from now exec text h first line one more is s =
+      subst (λ (l : Line). IsServed from now exec text h (first ++ (l ∷ more))) is
+      (subst (λ (ls : List Line). IsServed from now exec text h ls) (append_assoc first (line ∷ []) more) s)
+
+  pub stops-one : (from now : D) (exec : Exec) (text : Text) (h : List Entry) (first : List Line) (line one : Line) (more : List Line) → line ≡ one
+      → Stops from now exec text h (first ++ line ∷ []) more → Stops from now exec text h first (one ∷ more)
+  stops-one from now exec text h first line one more is s =
+      subst (λ (l : Line). Stops from now exec text h first (l ∷ more)) is (stops-behind from now exec text h first (line ∷ []) more s)
+
+  pub stops-at : (from now : D) (exec : Exec) (P : Language) (text : Text) (h : List Entry) (first : List Line) (line one : Line) (more : List Line)
+      → language exec ≡ P → line ≡ one → IsStopped from now P text h first line → Stops from now exec text h first (one ∷ more)
+  stops-at from now exec P text h first line one more same is s =
+      subst (λ (l : Line). Stops from now exec text h first (l ∷ more)) is (stops-within from now exec P text h first line more same s)
+
+  -- behind all of them
+  pub stops-last : (from now : D) (exec : Exec) (text : Text) (h : List Entry) (lines : List Line) → IsServed from now exec text h lines → Stops from now exec text h [] lines
+  stops-last from now exec text h lines s = record { done = lines; later = []; of_lines = sym (append-nil lines); state = inl s }
 
   -- ---- the transfers
 

@@ -1,6 +1,6 @@
 //! What the store has when the script was run.
 
-ghost use Rattle.std.specs.Prelude.{◌≡◌, length, codes, List, IfOk, option_and_then};
+ghost use Rattle.std.specs.Prelude.{◌≡◌, ◌≤◌, length, codes, cond, IfOk};
 ghost use Rattle.std.specs.Option.{option_copied};
 ghost use Rattle.r3_model.specs.Generator.{amount, account, flow_id, is_success, successes, total};
 ghost use Rattle.r3_model.specs.Machine.{State};
@@ -17,7 +17,7 @@ use r3_value::{Memory, Val};
 use std::alloc::Global;
 
 fn is_success(row: Option<&FlowRow>) -> bool
-    ensures { result ≡ is_success (option_copied row) }
+    ensures { result ≡ is_success (option_copied row.entry) }
 {
     match row {
         Some(row) => matches!(row.status, Status::Success),
@@ -25,14 +25,16 @@ fn is_success(row: Option<&FlowRow>) -> bool
     }
 }
 
-fn has_succeeded(alloc: Global, exec: &Exec, i: u32) -> Result<bool, Memory>
+// 1 where the workflow of this transfer has succeeded, and else 0.
+fn success_of(alloc: Global, exec: &Exec, i: u32) -> Result<u32, Memory>
     requires { (st : State) × Stands exec.now st }
-    ensures { (st : State) → Stands exec.now st →
-        IfOk result (λ b. b ≡ is_success (flow_at st.history (length st.history) (flow_id i))) }
+    ensures success { (st : State) → Stands exec.now st →
+        IfOk result (λ n. n ≡ cond (is_success (flow_at st.history (length st.history) (flow_id i))) 1 0) }
+    ensures few { IfOk result (λ n. n ≤ 1) }
 {
     let id = flow_id(alloc, i)?;
     let row = exec.flow(alloc, id.as_str())?;
-    Ok(is_success(row))
+    if is_success(row) { Ok(1) } else { Ok(0) }
 }
 
 // The number of the workflows that have succeeded.
@@ -42,16 +44,15 @@ fn successes(alloc: Global, exec: &Exec, count: u32) -> Result<u32, Memory>
 {
     let mut successes = 0;
     'starts: for i in 0..count {
-        if has_succeeded(alloc, exec, i)? {
-            successes += 1;
-        }
+        let success = success_of(alloc, exec, i)?;
+        successes += success;
     }
     Ok(successes)
 }
 
 // A row that is no Int counts nothing.
 fn amount(value: Option<&Val>) -> i64
-    ensures { result ≡ amount (option_copied value) }
+    ensures { result ≡ amount (option_copied value.entry) }
 {
     match value {
         Some(Val::Int(n)) => *n,
