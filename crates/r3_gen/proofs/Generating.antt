@@ -1,5 +1,5 @@
 -- Lines that are answered one after another, and where they end early.
-use Rattle.std.proofs.Common.{◌≡◌, ◌⊎◌, inl, inr, ⊎_elim, ℕ, suc, ◌+◌, ◌-◌, ◌<◌, ◌≤◌, List, [], ◌∷◌, ◌++◌, Option, refl, sym, ap, ◌∙◌, subst, arith, append-nil}
+use Rattle.std.proofs.Common.{◌≡◌, inl, inr, ⊎_elim, ℕ, suc, ◌+◌, ◌-◌, ◌<◌, ◌≤◌, List, [], ◌∷◌, ◌++◌, Option, refl, sym, ap, ◌∙◌, subst, arith, append-nil}
 use Rattle.std.specs.Prelude.{Result, Ok, Err, IfOk, OnOk, OnErr}
 use Rattle.std.proofs.lemmas.List.{append_assoc}
 use Rattle.r3_entry.specs.declared.entry.Entry.{Entry}
@@ -58,9 +58,13 @@ module _ {D : Type 0} (told_size : D → Option ℕ) (told_image : D → Option 
     done = [];
     later = line ∷ more;
     of_lines = refl;
-    state = inr (line, more, refl,
-        subst (λ (ls : List Line). IsStopped from now (language exec) text h ls line) (sym (append-nil first))
-        (subst (λ (L : Language). IsStopped from now L text h first line) (sym is) s));
+    state = inr (
+      line,
+      more,
+      refl,
+      subst (λ (ls : List Line). IsStopped from now (language exec) text h ls line) (sym (append-nil first))
+          (subst (λ (L : Language). IsStopped from now L text h first line) (sym is) s),
+    );
   }
 
   -- behind these

@@ -1,5 +1,5 @@
 -- A summary that is said, whole or in part, when all lines were answered and no reply was said.
-use Rattle.std.proofs.Common.{◌≡◌, ⊎_elim, ℕ, zero, suc, ◌+◌, ◌-◌, ◌≤◌, max, List, [], ◌∷◌, ◌++◌, length, take, Option, Some, None, refl, sym, ap, ◌∙◌, subst, arith, append-nil, length-append}
+use Rattle.std.proofs.Common.{◌≡◌, ⊎_elim, ℕ, zero, suc, ◌-◌, ◌≤◌, max, List, [], ◌∷◌, ◌++◌, length, take, Option, Some, None, refl, sym, ap, ◌∙◌, subst, arith, append-nil, length-append}
 use Rattle.std.proofs.lemmas.List.{take_all}
 use Rattle.r3_entry.specs.declared.entry.Entry.{Entry}
 use Rattle.r3_entry.specs.Image.{IsHistoryOf}
@@ -8,12 +8,10 @@ use Rattle.r3_desk.specs.Crash.{Reach, LeavesOnly, GoesOn}
 use Rattle.r3_desk.specs.Disk.{told_len, told_push}
 use Rattle.r3_desk.specs.Moments.{leaves_then}
 use Rattle.r3_model.specs.Language.{Language, Text}
-use Rattle.r3_model.specs.Event.{Call}
 use Rattle.r3_model.specs.Held.{Mark, Said, Asked, owed, due}
 use Rattle.r3_model.specs.Script.{Line}
 use Rattle.r3_store.specs.declared.store.Store.{Store}
 use Rattle.r3_store.specs.Holds.{Holds}
-use Rattle.r3_exec.specs.Does.{told_after}
 use Rattle.r3_exec.specs.Runs.{language}
 use Rattle.r3_exec.specs.declared.exec.Exec.{Exec}
 use Rattle.r3_serve.specs.Held.{IsHeld, LeavesHeld, asked_marks}
@@ -124,17 +122,17 @@ module _ {D : Type 0} (told_size : D → Option ℕ) (told_image : D → Option 
             (omega (arith, p.0, p.1, none)) p.4,
       ))
       (λ c n m q.
-          let now = s.leaves.each c (told_len (said mid)) (told_len (asked mid)) (counts mid (moment from) c s.leaves.elapses.later q.0) in (
-            omega (arith, q.1, none),
-            q.2,
-            omega (arith, q.3, now.2),
-            q.4,
-            held-after s.after.history (length h) s.marks bytes (n - told_len (said from)) (m - told_len (asked from))
-                (told_len (said mid) - told_len (said from)) (told_len (asked mid) - told_len (asked from)) c c
-                (omega (arith, q.3, q.4, still))
-                (whole s.after.history c (crash mid exec.store s.after.history (length s.after.history) c s.runs.holds q.0))
-                now.4,
-          ))
+      let now = s.leaves.each c (told_len (said mid)) (told_len (asked mid)) (counts mid (moment from) c s.leaves.elapses.later q.0) in (
+        omega (arith, q.1, none),
+        q.2,
+        omega (arith, q.3, now.2),
+        q.4,
+        held-after s.after.history (length h) s.marks bytes (n - told_len (said from)) (m - told_len (asked from))
+            (told_len (said mid) - told_len (said from)) (told_len (asked mid) - told_len (asked from)) c c
+            (omega (arith, q.3, q.4, still))
+            (whole s.after.history c (crash mid exec.store s.after.history (length s.after.history) c s.runs.holds q.0))
+            now.4,
+      ))
 
   pub has-said : CountsNow → CrashLaw → ReadLaw → (from mid new : D) (exec : Exec) (P : Language) (text : Text) (h : List Entry) (lines : List Line) (starts : ℕ) (part rest : Text)
       → language exec ≡ P

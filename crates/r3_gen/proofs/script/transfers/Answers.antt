@@ -1,5 +1,5 @@
-use Rattle.std.proofs.Common.{rules, refl, arith, ◌≡◌, ◌<◌, ◌++◌}
-use Rattle.r3_gen.proofs.Generating.{going-first, going-on, going-last, going-stops}
+use Rattle.std.proofs.Common.{rules, refl, arith, ◌<◌, ◌++◌}
+use Rattle.r3_gen.proofs.Generating.{going-first, going-on, going-stops}
 use Rattle.r3_gen.proofs.script.transfers.Goals as goal
 
 pub starts-init : goal.starts-init

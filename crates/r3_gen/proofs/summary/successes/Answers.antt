@@ -1,4 +1,4 @@
-use Rattle.std.proofs.Common.{arith, ◌≡◌, ◌∙◌, ℕ, ◌+◌, sym, ap}
+use Rattle.std.proofs.Common.{arith, ◌∙◌, ℕ, ◌+◌, sym, ap}
 use Rattle.r3_model.specs.Generator.{successes}
 use Rattle.r3_gen.proofs.Counting.{successes-next}
 use Rattle.r3_gen.proofs.summary.successes.Goals as goal

@@ -1,4 +1,4 @@
-use Rattle.std.proofs.Common.{◌≡◌, ◌∙◌, rules, FitsSigned, to_z-of_z, sym, ap, subst}
+use Rattle.std.proofs.Common.{◌∙◌, rules, FitsSigned, to_z-of_z, sym, ap, subst}
 use Rattle.std.specs.Int.{w128}
 use Rattle.serde_json.specs.Data.{Data}
 use Rattle.r3_json.specs.Lines.{line_of}

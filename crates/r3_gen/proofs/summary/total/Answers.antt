@@ -1,4 +1,4 @@
-use Rattle.std.proofs.Common.{rules, arith, ◌≡◌, ◌∙◌, ℕ, ℤ, ◌+ℤ◌, ◌≤◌, FitsSigned, SFits, to_z, of_z, to_z-of_z, sym, ap}
+use Rattle.std.proofs.Common.{rules, arith, ◌≡◌, ◌∙◌, ℕ, ℤ, ◌+ℤ◌, FitsSigned, to_z, of_z, to_z-of_z, sym, ap}
 use Rattle.std.specs.Int.{w64, w128}
 use Rattle.std.proofs.lemmas.Int.{ints}
 use Rattle.r3_gen.proofs.Counting.{total_of, total-next}
