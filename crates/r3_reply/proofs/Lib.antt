@@ -1,2 +1,2 @@
 mod NoFloat
-mod Told
+pub mod Told
