@@ -3,7 +3,7 @@ use Rattle.std.specs.Prelude.{◌≡◌, ◌⊎◌, ℕ, ◌<◌, ◌≤◌, ◌
 use Rattle.std.specs.Option.{ForSome}
 use Rattle.r3_entry.specs.declared.entry.Entry.{Entry}
 use Rattle.r3_entry.specs.Image.{IsHistoryOf}
-use Rattle.r3_words.specs.Forms.{Form, run, recover}
+use Rattle.r3_words.specs.Forms.{Form, run, recover, gen}
 use Rattle.r3_model.specs.Language.{Text}
 use Rattle.r3_recover.specs.Opened.{HasProgram}
 use Rattle.r3_cli.specs.declared.functions.FunctionsFault.{FunctionsFault}
@@ -16,6 +16,7 @@ use Rattle.r3_cli.specs.declared.halt.Halt.TheVariants as halts
 abbrev pub OnStore : Form → Type 0 → Type 0
 OnStore (run functions) A = A
 OnStore (recover functions turns) A = A
+OnStore (gen number count) A = A
 OnStore form A = ⊥
 
 -- the cause of a refusal, by the function file, the store and the script
@@ -42,6 +43,7 @@ IsReady text image = (i : Text) × (h : List Entry) × (image ≡ Some i) × IsH
 abbrev pub HasStore : Form → Text → Option Text → Type 0
 HasStore (run functions) text image = IsReady text image
 HasStore (recover functions turns) text image = IsReady text image
+HasStore (gen number count) text image = IsReady text image
 HasStore form text image = ⊤
 
 -- a script within the limit, where the command reads one

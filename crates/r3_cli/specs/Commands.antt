@@ -1,6 +1,6 @@
 -- Which command the words are, of those that are there.
 use Rattle.std.specs.Prelude.{Bool, true, false, List, Option, Some, None, if◌then◌else◌, option_and_then}
-use Rattle.r3_words.specs.Forms.{Form, command_of, run, recover, check}
+use Rattle.r3_words.specs.Forms.{Form, command_of, run, recover, check, gen}
 use Rattle.r3_model.specs.Language.{Text}
 
 -- of the commands, those that are there
@@ -8,6 +8,7 @@ abbrev pub is_there : Form → Bool
 is_there (run functions) = true
 is_there (recover functions turns) = true
 is_there (check functions) = true
+is_there (gen number count) = true
 is_there form = false
 
 abbrev pub form_there : Text × Form → Option Form

@@ -8,9 +8,11 @@ use Rattle.r3_desk.specs.Asked as desk
 use Rattle.r3_desk.specs.Crash.{Reach}
 use Rattle.r3_json.specs.Lines as json
 use Rattle.r3_model.specs.Functions.{language_of}
+use Rattle.r3_model.specs.Generator.{generated}
 use Rattle.r3_model.specs.Language.{Text}
 use Rattle.r3_model.specs.Script.{Drain}
 use Rattle.r3_serve.specs.Scripted.{script_lines, ended_script_lines}
+use Rattle.r3_gen.specs.Ran.{Ran}
 use Rattle.r3_cli.specs.Statuses.{status, last}
 use Rattle.r3_cli.specs.Counts.{counts_data}
 use Rattle.r3_cli.specs.Refusals.{IsFile, IsFileRefusal, IsRefusal, IsOpened}
@@ -59,6 +61,15 @@ module _ {D : Type 0} (told_image : D → Option Text) (may_leave : D → Text �
 
   abbrev pub RecoverComes : ℕ → Text → Option Halt → Text → Type 0
   RecoverComes turns text end line = Comes text (RecoverWork turns text) end line
+
+  -- all of the generator's lines, of which the summary alone is said
+  abbrev pub GenWork : ℕ → ℕ → Text → List Item → List Entry → Option Halt → Text → Type 0
+  GenWork number count text items h None line =
+      (line ≡ []) × Ran told_image moment reach said asked from now (language_of items) text h (generated number count) count
+  GenWork number count text items h end line = ⊥
+
+  abbrev pub GenComes : ℕ → ℕ → Text → Option Halt → Text → Type 0
+  GenComes number count text end line = Comes text (GenWork number count text) end line
 
 -- The function file was refused, or it was said how many items of each kind there are.
 abbrev pub CheckComes : {D : Type 0} → (D → Option Text) → (D → Option Text) → (D → Option (List desk.Call)) → D → D → Text → Option Halt → Text → Type 0

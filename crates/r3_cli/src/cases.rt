@@ -3,6 +3,7 @@
 mod bank;
 mod crashes;
 mod files;
+mod generated;
 mod restarts;
 mod stores;
 mod workflows;

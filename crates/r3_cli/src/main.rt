@@ -11,6 +11,7 @@ mod check;
 mod counts;
 mod files;
 mod functions;
+mod generate;
 mod halt;
 mod run;
 mod top;

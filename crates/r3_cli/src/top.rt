@@ -8,23 +8,25 @@ ghost use Rattle.r3_entry.specs.declared.entry.Entry.{Entry};
 ghost use Rattle.r3_entry.specs.Image.{IsHistoryOf};
 ghost use Rattle.r3_model.specs.Language.{Text};
 ghost use Rattle.r3_recover.specs.Opened.{HasProgram};
-ghost use Rattle.r3_words.specs.Forms.{Form, run as run_form, recover as recover_form, check as check_form};
+ghost use Rattle.r3_words.specs.Forms.{Form, run as run_form, recover as recover_form, check as check_form, gen as gen_form};
 ghost use Rattle.r3_cli.specs.Commands.{asked_by, file_of};
 ghost use Rattle.r3_cli.specs.Functions.{IsRefused};
 ghost use Rattle.r3_cli.specs.Statuses.{IsBroken, IsFault, last_line, status_of};
 ghost use Rattle.r3_cli.specs.Refusals.{IsNoStore, IsOthers};
-ghost use Rattle.r3_cli.specs.Causes.{HasCause, HasScript, HasStore, IsTaken};
+ghost use Rattle.r3_cli.specs.Causes.{HasCause, HasScript, HasStore, IsReady, IsTaken};
 ghost use Rattle.r3_cli.specs.Answered.{Says};
-ghost use Rattle.r3_cli.specs.Going.{Before, IsCutOff, RecoverGoes, RunGoes, Unbegun};
-ghost use Rattle.r3_cli.specs.Ends.{CheckComes, EndsAs, RecoverComes, RunComes, end_of};
+ghost use Rattle.r3_cli.specs.Going.{Before, GenGoes, IsCutOff, RecoverGoes, RunGoes, Unbegun};
+ghost use Rattle.r3_cli.specs.Ends.{CheckComes, EndsAs, GenComes, RecoverComes, RunComes, end_of};
 ghost use Rattle.r3_cli.specs.Closes.{IsSilent, SaysLast};
 ghost use Rattle.r3_cli.specs.declared.functions.FunctionsFault.{FunctionsFault};
 ghost use Rattle.r3_cli.specs.declared.halt.Halt.TheVariants as halts;
 
 use crate::check::check;
+use crate::generate::generate;
 use crate::halt::{Halt, last_line, status_of};
 use crate::run::{recover, run};
 use r3_desk::{Desk, Shelf, Source};
+use r3_gen::BANK;
 use r3_words::{Command, read};
 use std::alloc::Global;
 
@@ -59,6 +61,18 @@ fn command<D: Desk, S: Source, F: Shelf>(
         IsHistoryOf h image → HasProgram h text →
         Before (Unbegun D.image D.may_leave D.moment D.reach D.said D.asked desk.old desk.new h []) ⊥
         (RecoverGoes D.image D.may_leave D.moment D.reach D.said D.asked desk.old desk.new text h turns) (end_of result) }
+    ensures generates { (number count : ℕ) → asked_by (map string_bytes words.now) ≡ Some (gen_form number count) →
+        IsBroken (end_of result) ⊎ GenComes D.image D.may_leave D.moment D.reach D.said D.asked desk.old desk.new
+        number count BANK.now (end_of result) [] }
+    ensures gen_goes { (number count : ℕ) (image : Text) (h : List Entry) →
+        asked_by (map string_bytes words.now) ≡ Some (gen_form number count) →
+        D.image desk.old ≡ Some image → IsHistoryOf h image → HasProgram h BANK.now →
+        Before (Unbegun D.image D.may_leave D.moment D.reach D.said D.asked desk.old desk.new h []) ⊥
+        (GenGoes D.image D.may_leave D.moment D.reach D.said D.asked desk.old desk.new BANK.now h number count) (end_of result) }
+    ensures gen_causes { (number count : ℕ) → asked_by (map string_bytes words.now) ≡ Some (gen_form number count) →
+        IfErr result (HasCause (gen_form number count) BANK.now (D.image desk.old) (S.left script.old)) }
+    ensures gen_reads_nothing { (number count : ℕ) → asked_by (map string_bytes words.now) ≡ Some (gen_form number count) →
+        (script.new ≡ script.old) × (shelf.new ≡ shelf.old) }
     ensures checks { (functions text : Text) → asked_by (map string_bytes words.now) ≡ Some (check_form functions) →
         F.text_of shelf.old functions ≡ Some text →
         IsBroken (end_of result) ⊎ CheckComes D.image D.said D.asked desk.old desk.new text (end_of result) [] }
@@ -90,6 +104,7 @@ fn command<D: Desk, S: Source, F: Shelf>(
         Command::Run { functions } => run(alloc, functions, desk, script, shelf),
         Command::Recover { functions, turns } => recover(alloc, functions, turns, desk, shelf),
         Command::Check { functions } => check(alloc, functions, desk, shelf),
+        Command::Gen { number, count } => generate(alloc, BANK, number, count, desk),
         _ => Err(Halt::Usage),
     }
 }
@@ -152,6 +167,8 @@ pub fn top<D: Desk, S: Source, F: Shelf>(
         asked_by (map string_bytes words.now) ≡ Some (recover_form functions turns) →
         F.text_of shelf.old functions ≡ Some text →
         IsFault result ⊎ EndsAs (RecoverComes D.image D.may_leave D.moment D.reach D.said D.asked desk.old desk.new turns text) result }
+    ensures generates { (number count : ℕ) → asked_by (map string_bytes words.now) ≡ Some (gen_form number count) →
+        IsFault result ⊎ EndsAs (GenComes D.image D.may_leave D.moment D.reach D.said D.asked desk.old desk.new number count BANK.now) result }
     ensures checks { (functions text : Text) → asked_by (map string_bytes words.now) ≡ Some (check_form functions) →
         F.text_of shelf.old functions ≡ Some text →
         IsFault result ⊎ EndsAs (CheckComes D.image D.said D.asked desk.old desk.new text) result }
@@ -173,6 +190,10 @@ pub fn top<D: Desk, S: Source, F: Shelf>(
         F.text_of shelf.old functions ≡ Some text → D.image desk.old ≡ Some image →
         IsHistoryOf h image → HasProgram h text →
         RecoverGoes D.image D.may_leave D.moment D.reach D.said D.asked desk.old desk.new text h turns }
+    ensures gen_goes { (number count : ℕ) (image : Text) (h : List Entry) →
+        asked_by (map string_bytes words.now) ≡ Some (gen_form number count) →
+        D.image desk.old ≡ Some image → IsHistoryOf h image → HasProgram h BANK.now →
+        GenGoes D.image D.may_leave D.moment D.reach D.said D.asked desk.old desk.new BANK.now h number count }
 
     // Where nothing stands in the way and nothing fails, the command is done, or there is no memory.
     ensures completes { (form : Form) (path text : Text) → asked_by (map string_bytes words.now) ≡ Some form →
@@ -180,6 +201,10 @@ pub fn top<D: Desk, S: Source, F: Shelf>(
         HasStore form text (D.image desk.old) → HasScript form (S.left script.old) →
         (Rose (D.disk_faults desk.old) (D.disk_faults desk.new) → ⊥) → (Rose (D.say_faults desk.old) (D.say_faults desk.new) → ⊥) →
         (Rose (S.faults script.old) (S.faults script.new) → ⊥) → (Rose (F.faults shelf.old) (F.faults shelf.new) → ⊥) →
+        (result ≡ 0) ⊎ (result ≡ 3) }
+    ensures gen_completes { (number count : ℕ) → asked_by (map string_bytes words.now) ≡ Some (gen_form number count) →
+        IsTaken BANK.now → IsReady BANK.now (D.image desk.old) →
+        (Rose (D.disk_faults desk.old) (D.disk_faults desk.new) → ⊥) → (Rose (D.say_faults desk.old) (D.say_faults desk.new) → ⊥) →
         (result ≡ 0) ⊎ (result ≡ 3) }
 
     // Each status has its cause.
@@ -205,6 +230,14 @@ pub fn top<D: Desk, S: Source, F: Shelf>(
     ensures long { (form : Form) (path text : Text) → asked_by (map string_bytes words.now) ≡ Some form →
         file_of form ≡ Some path → F.text_of shelf.old path ≡ Some text →
         result ≡ 10 → (2 ^ 20 < length text) ⊎ ForSome (S.left script.old) (λ lines. 2 ^ 26 < length lines) }
+    ensures gen_functions { (number count : ℕ) → asked_by (map string_bytes words.now) ≡ Some (gen_form number count) →
+        result ≡ 7 → (fault : FunctionsFault) × IsRefused BANK.now fault }
+    ensures gen_store { (number count : ℕ) → asked_by (map string_bytes words.now) ≡ Some (gen_form number count) →
+        result ≡ 8 → (entry : ℕ) × IsNoStore (D.image desk.old) entry }
+    ensures gen_program { (number count : ℕ) → asked_by (map string_bytes words.now) ≡ Some (gen_form number count) →
+        result ≡ 9 → IsOthers BANK.now (D.image desk.old) }
+    ensures gen_reads_nothing { (number count : ℕ) → asked_by (map string_bytes words.now) ≡ Some (gen_form number count) →
+        (script.new ≡ script.old) × (shelf.new ≡ shelf.old) × (result ≡ 6 → ⊥) × (result ≡ 10 → ⊥) }
 {
     match command(alloc, words, desk, script, shelf) {
         Ok(()) => 0,
