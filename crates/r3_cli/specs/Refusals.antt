@@ -45,6 +45,15 @@ pub record IsOpened (text : Text) (image : Option Text) (items : List Item) (h :
   pub history : ForSome image (IsHistoryOf h)
   pub program : HasProgram h text
 
+-- what may halt a call that reads neither a function file nor a script
+abbrev pub ReadsNone : Halt → Type 0
+ReadsNone halts.Usage = ⊥
+ReadsNone halts.Files = ⊥
+ReadsNone halts.Script = ⊥
+ReadsNone halts.LongFile = ⊥
+ReadsNone halts.LongScript = ⊥
+ReadsNone halt = ⊤
+
 -- what halts a call before its work
 abbrev pub IsEarly : Halt → Type 0
 IsEarly halts.Usage = ⊥

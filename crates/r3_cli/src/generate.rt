@@ -10,6 +10,7 @@ ghost use Rattle.r3_recover.specs.Opened.{HasProgram};
 ghost use Rattle.r3_words.specs.Forms.{gen as gen_form};
 ghost use Rattle.r3_cli.specs.Causes.{HasCause};
 ghost use Rattle.r3_cli.specs.Statuses.{IsBroken};
+ghost use Rattle.r3_cli.specs.Refusals.{ReadsNone};
 ghost use Rattle.r3_cli.specs.Going.{Before, GenGoes, Unbegun};
 ghost use Rattle.r3_cli.specs.Ends.{GenComes, end_of};
 
@@ -38,6 +39,7 @@ pub fn generate<D: Desk>(
         Before (Unbegun D.image D.may_leave D.moment D.reach D.said D.asked desk.old desk.new h []) ⊥
         (GenGoes D.image D.may_leave D.moment D.reach D.said D.asked desk.old desk.new text.now h number count) (end_of result) }
     ensures causes { (left : Option Text) → IfErr result (HasCause (gen_form number count) text.now (D.image desk.old) left) }
+    ensures reads_none { IfErr result ReadsNone }
     ensures usage { result ≡ Err Halt.Usage → ⊥ }
     ensures files { result ≡ Err Halt.Files → ⊥ }
     ensures script { result ≡ Err Halt.Script → ⊥ }

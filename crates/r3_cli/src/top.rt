@@ -12,7 +12,7 @@ ghost use Rattle.r3_words.specs.Forms.{Form, run as run_form, recover as recover
 ghost use Rattle.r3_cli.specs.Commands.{asked_by, file_of};
 ghost use Rattle.r3_cli.specs.Functions.{IsRefused};
 ghost use Rattle.r3_cli.specs.Statuses.{IsBroken, IsFault, last_line, status_of};
-ghost use Rattle.r3_cli.specs.Refusals.{IsNoStore, IsOthers};
+ghost use Rattle.r3_cli.specs.Refusals.{IsNoStore, IsOthers, ReadsNone};
 ghost use Rattle.r3_cli.specs.Causes.{HasCause, HasScript, HasStore, IsReady, IsTaken};
 ghost use Rattle.r3_cli.specs.Answered.{Says};
 ghost use Rattle.r3_cli.specs.Going.{Before, GenGoes, IsCutOff, RecoverGoes, RunGoes, Unbegun};
@@ -71,8 +71,8 @@ fn command<D: Desk, S: Source, F: Shelf>(
         (GenGoes D.image D.may_leave D.moment D.reach D.said D.asked desk.old desk.new BANK.now h number count) (end_of result) }
     ensures gen_causes { (number count : ℕ) → asked_by (map string_bytes words.now) ≡ Some (gen_form number count) →
         IfErr result (HasCause (gen_form number count) BANK.now (D.image desk.old) (S.left script.old)) }
-    ensures gen_reads_nothing { (number count : ℕ) → asked_by (map string_bytes words.now) ≡ Some (gen_form number count) →
-        (script.new ≡ script.old) × (shelf.new ≡ shelf.old) }
+    ensures gen_reads_none { (number count : ℕ) → asked_by (map string_bytes words.now) ≡ Some (gen_form number count) →
+        (script.new ≡ script.old) × (shelf.new ≡ shelf.old) × IfErr result ReadsNone }
     ensures checks { (functions text : Text) → asked_by (map string_bytes words.now) ≡ Some (check_form functions) →
         F.text_of shelf.old functions ≡ Some text →
         IsBroken (end_of result) ⊎ CheckComes D.image D.said D.asked desk.old desk.new text (end_of result) [] }
@@ -236,7 +236,7 @@ pub fn top<D: Desk, S: Source, F: Shelf>(
         result ≡ 8 → (entry : ℕ) × IsNoStore (D.image desk.old) entry }
     ensures gen_program { (number count : ℕ) → asked_by (map string_bytes words.now) ≡ Some (gen_form number count) →
         result ≡ 9 → IsOthers BANK.now (D.image desk.old) }
-    ensures gen_reads_nothing { (number count : ℕ) → asked_by (map string_bytes words.now) ≡ Some (gen_form number count) →
+    ensures gen_reads_none { (number count : ℕ) → asked_by (map string_bytes words.now) ≡ Some (gen_form number count) →
         (script.new ≡ script.old) × (shelf.new ≡ shelf.old) × (result ≡ 6 → ⊥) × (result ≡ 10 → ⊥) }
 {
     match command(alloc, words, desk, script, shelf) {
