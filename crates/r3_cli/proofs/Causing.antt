@@ -1,6 +1,6 @@
 -- The causes of each status.
 use Rattle.std.proofs.Common.{◌≡◌, ◌⊎◌, inl, inr, ⊎_elim, ℕ, ◌<◌, ◌≤◌, ◌^◌, List, length, Option, Some, None, refl, sym, ap, ◌∙◌, subst, arith}
-use Rattle.std.specs.Prelude.{⊤}
+use Rattle.std.specs.Prelude.{Result, Err}
 use Rattle.std.specs.Option.{ForSome}
 use Rattle.r3_words.specs.Forms.{Form, run, recover, trace, replay, retro, check, gen}
 use Rattle.r3_model.specs.Language.{Text}
@@ -148,6 +148,46 @@ module _ (form : Form) (text : Text) (image left : Option Text) (answer : ℕ) w
 
   pub long-cause : (halt : Halt) → Answers answer halt → HasCause form text image left halt → answer ≡ 10 → (2 ^ 20 < length text) ⊎ ForSome left (λ script. 2 ^ 26 < length script)
   long-cause halt is c at = long-of halt (sym at ∙ own answer halt is (λ t. omega (arith, at, t)) (λ f. omega (arith, at, f))) c
+
+-- ---- of a failure
+
+disk-of : (halt : Halt) → 4 ≡ status_of halt → halt ≡ halts.Disk
+disk-of halts.Usage is = absurd (omega (arith, is))
+disk-of halts.Memory is = absurd (omega (arith, is))
+disk-of halts.Disk is = refl
+disk-of halts.Say is = absurd (omega (arith, is))
+disk-of halts.Files is = absurd (omega (arith, is))
+disk-of halts.Script is = absurd (omega (arith, is))
+disk-of (halts.Functions f) is = absurd (omega (arith, is))
+disk-of (halts.Store e) is = absurd (omega (arith, is))
+disk-of halts.Program is = absurd (omega (arith, is))
+disk-of halts.LongFile is = absurd (omega (arith, is))
+disk-of halts.LongScript is = absurd (omega (arith, is))
+
+input-of : (halt : Halt) → 6 ≡ status_of halt → (halt ≡ halts.Files) ⊎ (halt ≡ halts.Script)
+input-of halts.Usage is = absurd (omega (arith, is))
+input-of halts.Memory is = absurd (omega (arith, is))
+input-of halts.Disk is = absurd (omega (arith, is))
+input-of halts.Say is = absurd (omega (arith, is))
+input-of halts.Files is = inl refl
+input-of halts.Script is = inr refl
+input-of (halts.Functions f) is = absurd (omega (arith, is))
+input-of (halts.Store e) is = absurd (omega (arith, is))
+input-of halts.Program is = absurd (omega (arith, is))
+input-of halts.LongFile is = absurd (omega (arith, is))
+input-of halts.LongScript is = absurd (omega (arith, is))
+
+pub disk-cause : (answer : ℕ) (halt : Halt) → Answers answer halt → answer ≡ 4 → halt ≡ halts.Disk
+disk-cause answer halt is at = disk-of halt (sym at ∙ own answer halt is (λ t. omega (arith, at, t)) (λ f. omega (arith, at, f)))
+
+pub input-cause : (answer : ℕ) (halt : Halt) → Answers answer halt → answer ≡ 6 → (halt ≡ halts.Files) ⊎ (halt ≡ halts.Script)
+input-cause answer halt is at = input-of halt (sym at ∙ own answer halt is (λ t. omega (arith, at, t)) (λ f. omega (arith, at, f)))
+
+pub err-same : (a b : Halt) → ◌≡◌ {A = Result (Unit {0}) Halt} (Err a) (Err b) → a ≡ b
+err-same a b is = cc
+
+pub no-form : (told : Option Form) (form : Form) → told ≡ Some form → told ≡ None → ⊥
+no-form told form a b = let e : ◌≡◌ {A = Option Form} (Some form) None = sym a ∙ b in cc
 
 -- ---- nothing stands in the way
 

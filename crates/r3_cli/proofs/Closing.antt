@@ -122,7 +122,8 @@ module _ {D : Type 0} (image : D → Option Text) (may_leave : D → Text → Ty
   run-ends left left' text halt closes came = ends-as image may_leave moment reach said asked from mid now halt answer
       (RunComes image may_leave moment reach said asked from mid left left' text) (RunComes image may_leave moment reach said asked from now left left' text)
       (λ same old. subst (λ (d : D). RunComes image may_leave moment reach said asked from d left left' text (Some halt) []) (sym same) old)
-      (comes-line image may_leave moment reach said asked from mid now halt answer text _ _ (λ items h. run-line left left' text items h halt)) closes came
+      (comes-line image may_leave moment reach said asked from mid now halt answer text (RunWork image may_leave moment reach said asked from mid left left' text) (RunWork image may_leave moment reach said asked from now left left' text)
+      (λ items h. run-line left left' text items h halt)) closes came
 
   pub recover-ends : (turns : ℕ) (text : Text) (halt : Halt) → Closes image may_leave moment reach said asked from mid now halt answer
       → IsBroken (Some halt) ⊎ RecoverComes image may_leave moment reach said asked from mid turns text (Some halt) []
@@ -130,7 +131,8 @@ module _ {D : Type 0} (image : D → Option Text) (may_leave : D → Text → Ty
   recover-ends turns text halt closes came = ends-as image may_leave moment reach said asked from mid now halt answer
       (RecoverComes image may_leave moment reach said asked from mid turns text) (RecoverComes image may_leave moment reach said asked from now turns text)
       (λ same old. subst (λ (d : D). RecoverComes image may_leave moment reach said asked from d turns text (Some halt) []) (sym same) old)
-      (comes-line image may_leave moment reach said asked from mid now halt answer text _ _ (λ items h last w. absurd w)) closes came
+      (comes-line image may_leave moment reach said asked from mid now halt answer text (RecoverWork image may_leave moment reach said asked from mid turns text) (RecoverWork image may_leave moment reach said asked from now turns text)
+      (λ items h last w. absurd w)) closes came
 
   pub check-ends : (text : Text) (halt : Halt) → Closes image may_leave moment reach said asked from mid now halt answer
       → IsBroken (Some halt) ⊎ CheckComes image said asked from mid text (Some halt) []
@@ -158,7 +160,7 @@ module _ {D : Type 0} (image : D → Option Text) (may_leave : D → Text → Ty
   cut-off-line : (text : Text) (h : List Entry) (script : Text) (halt : Halt) → SaysLast image may_leave moment reach said asked mid now halt answer
       → IsCutOff image may_leave moment reach said asked from mid text h script → IsCutOff image may_leave moment reach said asked from now text h script
   cut-off-line text h script halt last c =
-      (c.0, c.1, c.2, last.line, (halt, last.rest, last.cut), answered-line image may_leave moment reach said asked from mid now halt answer (language_of c.0) text h _ last c.4)
+      (c.0, c.1, (c.2.0, last.line, (halt, last.rest, last.cut), answered-line image may_leave moment reach said asked from mid now halt answer (language_of c.0) text h _ last c.2.3))
 
   -- where a last line was said, nothing or a script that is too long has gone before
   goes-line : (Cut Cut' Goes Goes' : Type 0) (h : List Entry) (halt : Halt)

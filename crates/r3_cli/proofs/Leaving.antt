@@ -1,6 +1,7 @@
 -- What a crash leaves over two parts of a call.
 use Rattle.std.proofs.Common.{◌≡◌, ◌⊎◌, inl, inr, ⊎_elim, ℕ, ◌-◌, ◌≤◌, List, [], ◌++◌, length, Option, Some, None, refl, sym, ap, ◌∙◌, subst, arith}
 use Rattle.std.specs.Option.{ForSome}
+use Rattle.fn_tree.specs.declared.program.Item.{Item}
 use Rattle.r3_entry.specs.declared.entry.Entry.{Entry}
 use Rattle.r3_entry.specs.Image.{IsHistoryOf}
 use Rattle.r3_desk.specs.Asked as desk
@@ -9,9 +10,13 @@ use Rattle.r3_desk.specs.Disk.{told_len}
 use Rattle.r3_desk.specs.Moments.{LeavesImage, started, elapses_then}
 use Rattle.r3_model.specs.Language.{Text}
 use Rattle.r3_model.specs.Held.{Mark}
+use Rattle.r3_model.specs.Functions.{language_of}
+use Rattle.r3_session.specs.Begun.{StopsOpening}
 use Rattle.r3_serve.specs.Held.{IsHeld, LeavesHeld}
 use Rattle.r3_cli.specs.Answered.{AreBetween, LeavesPrefix}
-use Rattle.r3_cli.specs.Going.{Unbegun}
+use Rattle.r3_cli.specs.Functions.{IsAccepted}
+use Rattle.r3_cli.specs.Going.{Unbegun, NotBegun}
+use Rattle.r3_cli.specs.declared.halt.Halt.TheVariants as halts
 use Rattle.r3_cli.proofs.Saying.{says-none}
 
 some-same : (a b : Text) → ◌≡◌ {A = Option Text} (Some a) (Some b) → a ≡ b
@@ -48,6 +53,16 @@ module _ {D : Type 0} (image : D → Option Text) (may_leave : D → Text → Ty
     settled = left-now d h i pending is history;
     leaves = leaves-first d h i counts_now only_now pending is history;
   }
+
+  pub not-begun : (from now : D) (text : Text) (h : List Entry) → Unbegun image may_leave moment reach said asked from now h []
+      → NotBegun image may_leave moment reach said asked from now text h
+  not-begun from now text h u = inl ([], (halts.Memory, [], refl), u)
+
+  -- an opening that ended early
+  pub opening : (from now : D) (text : Text) (h : List Entry) (items : List Item) → IsAccepted text items
+      → StopsOpening image moment reach said asked (language_of items) from now text h → said now ≡ said from → asked now ≡ asked from
+      → NotBegun image may_leave moment reach said asked from now text h
+  opening from now text h items accepted stops a b = inr (items, accepted, (stops, a, b))
 
   -- of an answered call
   pub leaves-held : (from now : D) (h : List Entry) (first : ℕ) (marks : List Mark)

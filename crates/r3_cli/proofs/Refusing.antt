@@ -4,11 +4,10 @@ use Rattle.std.specs.Prelude.{Result, Ok, Err, ⊤, IfErr}
 use Rattle.std.specs.Option.{ForSome}
 use Rattle.fn_tree.specs.declared.program.Item.{Item}
 use Rattle.r3_entry.specs.declared.entry.Entry.{Entry}
-use Rattle.r3_entry.specs.Image.{IsHistoryOf, IsAccepted as IsStore}
-use Rattle.r3_store.specs.Opened.{IsCaused, IsStopped}
+use Rattle.r3_entry.specs.Image.{IsHistoryOf}
 use Rattle.r3_store.specs.declared.fault.OpenFault.{OpenFault}
 use Rattle.r3_model.specs.Language.{Text}
-use Rattle.r3_recover.specs.Opened.{HasProgram, IsHalted}
+use Rattle.r3_recover.specs.Opened.{HasProgram, HasCause, IsHalted}
 use Rattle.r3_recover.specs.declared.ends.StartFault.{StartFault}
 use Rattle.r3_recover.specs.declared.ends.StartFault.TheVariants as starts
 use Rattle.r3_cli.specs.declared.functions.FunctionsFault.{FunctionsFault}
@@ -16,7 +15,7 @@ use Rattle.r3_cli.specs.declared.halt.Halt.{Halt}
 use Rattle.r3_cli.specs.declared.halt.Halt.TheVariants as halts
 use Rattle.r3_cli.specs.Functions.{IsAccepted, IsRefused}
 use Rattle.r3_cli.specs.Statuses.{IsBroken, entry_of}
-use Rattle.r3_cli.specs.Refusals.{IsFile, IsFileRefusal, IsRefusal, IsNoStore, IsOthers, IsEarly}
+use Rattle.r3_cli.specs.Refusals.{IsFile, IsFileRefusal, IsRefusal, IsNoStore}
 use Rattle.r3_cli.specs.Going.{Before}
 
 halt-same : {T : Type 0} (a b : Halt) → ◌≡◌ {A = Result T Halt} (Err a) (Err b) → a ≡ b
@@ -62,6 +61,11 @@ as-refusal text image halts.Program r = absurd r
 as-refusal text image halts.LongFile r = r
 as-refusal text image halts.LongScript r = absurd r
 
+-- what was said beside it
+pub file-refused : (text : Text) (image : Option Text) (halt : Halt) (Said : Type 0) → Said → IsBroken (Some halt) ⊎ IsFileRefusal text (Some halt)
+    → IsBroken (Some halt) ⊎ (IsRefusal text image (Some halt) × Said)
+file-refused text image halt Said said r = ⊎_elim (λ b. inl b) (λ f. inr (as-refusal text image halt f, said)) r
+
 -- refused so, nothing was done
 pub nothing-done : (Nothing Cut Goes : Type 0) (text : Text) (halt : Halt) → IsBroken (Some halt) ⊎ IsFileRefusal text (Some halt)
     → Nothing → (Nothing → Goes) → Before Nothing Cut Goes (Some halt)
@@ -96,9 +100,6 @@ before-more N C L G halts.LongScript f b = absurd b
 store-halted : (fault : OpenFault) → IsHalted (starts.Store fault) → ⊥
 store-halted fault h = ⊎_elim (λ d. let e : starts.Store fault ≡ starts.Disk = d in cc) (λ m. let e : starts.Store fault ≡ starts.Memory = m in cc) h
 
-other-halted : IsHalted starts.Other → ⊥
-other-halted h = ⊎_elim (λ d. let e : starts.Other ≡ starts.Disk = d in cc) (λ m. let e : starts.Other ≡ starts.Memory = m in cc) h
-
 -- where the image stands for a history with this program, the opening answers so
 abbrev pub Opening-of : Option Text → Text → StartFault → Type 0
 Opening-of image text fault = (h : List Entry) → ForSome image (λ i. IsHistoryOf h i → HasProgram h text → IsHalted fault)
@@ -106,24 +107,18 @@ Opening-of image text fault = (h : List Entry) → ForSome image (λ i. IsHistor
 abbrev pub Others-of : Option Text → Text → StartFault → Type 0
 Others-of image text fault = (h : List Entry) → ForSome image (λ i. IsHistoryOf h i → (HasProgram h text → ⊥) → (fault ≡ starts.Other) ⊎ IsHalted fault)
 
-pub no-store : (image : Option Text) (text : Text) (fault : OpenFault) → Opening-of image text (starts.Store fault) → Others-of image text (starts.Store fault)
-    → IsCaused image fault × (IsStopped fault → ⊥) → (entry : ℕ) → entry ≡ entry_of fault → IsNoStore image entry
-no-store image text fault opens others caused entry is = (
-  λ i there store.
-      let p : HasProgram store.0 text → ⊥ = λ has. store-halted fault (opens store.0 i there store.1 has) in
-      ⊎_elim (λ o. let e : starts.Store fault ≡ starts.Other = o in cc) (λ h. store-halted fault h) (others store.0 i there store.1 p),
-  fault, caused.0, caused.1, is,
-)
-
-pub not-this : (image : Option Text) (text : Text) → Opening-of image text starts.Other
-    → ForSome image (λ i. (h : List Entry) × IsHistoryOf h i × (HasProgram h text → ⊥)) → IsOthers text image
-not-this image text opens caused = λ i there.
-    let x = caused i there in
-    ((x.0, x.1), λ h history has. other-halted (opens h i there history has))
+pub no-store : (image : Option Text) (text : Text) (start : StartFault) (fault : OpenFault) → start ≡ starts.Store fault → Opening-of image text start → Others-of image text start
+    → HasCause image text start → (entry : ℕ) → entry ≡ entry_of fault → IsNoStore image entry
+no-store image text start fault at opens others caused entry is =
+    let cause : HasCause image text (starts.Store fault) = subst (λ (x : StartFault). HasCause image text x) at caused in
+    let halted : IsHalted start → ⊥ = λ h. store-halted fault (subst IsHalted at h) in (
+      λ i there store.
+          let p : HasProgram store.0 text → ⊥ = λ has. halted (opens store.0 i there store.1 has) in
+          ⊎_elim (λ o. let e : starts.Store fault ≡ starts.Other = sym at ∙ o in cc) (λ h. halted h) (others store.0 i there store.1 p),
+      (fault, cause.0, cause.1, is),
+    )
 
 -- a store of this program isn't refused
-pub store-is-taken : (image : Option Text) (text i : Text) (h : List Entry) (fault : OpenFault) → Opening-of image text (starts.Store fault) → image ≡ Some i → IsHistoryOf h i → HasProgram h text → ⊥
-store-is-taken image text i h fault opens there history has = store-halted fault (opens h i there history has)
-
-pub program-is-taken : (image : Option Text) (text i : Text) (h : List Entry) → Opening-of image text starts.Other → image ≡ Some i → IsHistoryOf h i → HasProgram h text → ⊥
-program-is-taken image text i h opens there history has = other-halted (opens h i there history has)
+pub store-is-taken : (image : Option Text) (text i : Text) (h : List Entry) (start : StartFault) (fault : OpenFault) → start ≡ starts.Store fault → Opening-of image text start
+    → image ≡ Some i → IsHistoryOf h i → HasProgram h text → ⊥
+store-is-taken image text i h start fault at opens there history has = store-halted fault (subst IsHalted at (opens h i there history has))
