@@ -65,7 +65,7 @@ on-store trace A a = absurd a
 on-store (replay functions id) A a = absurd a
 on-store (retro functions plan) A a = absurd a
 on-store (check functions) A a = absurd a
-on-store (gen number count) A a = absurd a
+on-store (gen number count) A a = a
 
 long-script : (form : Form) (text : Text) (image left : Option Text) → HasCause form text image left halts.LongScript → ForSome left (λ script. 2 ^ 26 < length script)
 long-script (run functions) text image left c = c
@@ -205,7 +205,7 @@ module _ (text : Text) (image left : Option Text) where
   no-store-cause (replay functions id) entry r c = c
   no-store-cause (retro functions plan) entry r c = c
   no-store-cause (check functions) entry r c = c
-  no-store-cause (gen number count) entry r c = c
+  no-store-cause (gen number count) entry r c = ready-store entry r c
 
   no-program-cause : (form : Form) → HasStore form text image → OnStore form (IsOthers text image) → ⊥
   no-program-cause (run functions) r c = ready-program r c
@@ -214,7 +214,7 @@ module _ (text : Text) (image left : Option Text) where
   no-program-cause (replay functions id) r c = c
   no-program-cause (retro functions plan) r c = c
   no-program-cause (check functions) r c = c
-  no-program-cause (gen number count) r c = c
+  no-program-cause (gen number count) r c = ready-program r c
 
   no-long-cause : (form : Form) → HasScript form left → HasCause form text image left halts.LongScript → ⊥
   no-long-cause (run functions) s c = omega (arith, s.2, c s.0 s.1)

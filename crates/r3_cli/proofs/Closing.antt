@@ -17,8 +17,8 @@ use Rattle.r3_serve.specs.Served.{Loud, said_of}
 use Rattle.r3_cli.specs.Statuses.{status_of, last_line, IsBroken, IsFault}
 use Rattle.r3_cli.specs.Refusals.{IsRefusal, IsFileRefusal}
 use Rattle.r3_cli.specs.Answered.{Says, Answered, LeavesPrefix}
-use Rattle.r3_cli.specs.Going.{Unbegun, IsCut, IsCutOff, NotBegun, RunGoes, RecoverGoes, Before}
-use Rattle.r3_cli.specs.Ends.{Comes, RunComes, RunWork, RecoverComes, RecoverWork, CheckComes, EndsAs}
+use Rattle.r3_cli.specs.Going.{Unbegun, IsCut, IsCutOff, NotBegun, RunGoes, RecoverGoes, GenGoes, Before}
+use Rattle.r3_cli.specs.Ends.{Comes, RunComes, RunWork, RecoverComes, RecoverWork, GenComes, CheckComes, EndsAs}
 use Rattle.r3_cli.specs.Closes.{SaysLast, IsSilent}
 use Rattle.r3_cli.specs.declared.halt.Halt.{Halt}
 use Rattle.r3_cli.specs.declared.halt.Halt.TheVariants as halts
@@ -220,4 +220,25 @@ module _ {D : Type 0} (image : D → Option Text) (may_leave : D → Text → Ty
       (goes-before _ _ _ halt (λ u. inl (inl (nothing-said h u))) (λ c. absurd c) before))
       (λ last. goes-line image may_leave moment reach said asked from mid now answer ⊥ ⊥
       (RecoverGoes image may_leave moment reach said asked from mid text h turns) _ h halt
+      (λ u. inl (inl u)) (λ c. c) (λ c. absurd c) last before) closes
+
+  -- ---- the generator's call
+
+  pub gen-ends : (number count : ℕ) (text : Text) → Closes image may_leave moment reach said asked from mid now halt answer
+      → IsBroken (Some halt) ⊎ GenComes image may_leave moment reach said asked from mid number count text (Some halt) []
+      → IsFault answer ⊎ EndsAs (GenComes image may_leave moment reach said asked from now number count text) answer
+  gen-ends number count text closes came = ends-as image may_leave moment reach said asked from mid now halt answer
+      (GenComes image may_leave moment reach said asked from mid number count text) (GenComes image may_leave moment reach said asked from now number count text)
+      (λ same old. subst (λ (d : D). GenComes image may_leave moment reach said asked from d number count text (Some halt) []) (sym same) old)
+      (comes-line image may_leave moment reach said asked from mid now halt answer text _ _ (λ items h last w. absurd w)) closes came
+
+  pub gen-goes : (text : Text) (h : List Entry) (number count : ℕ) → Closes image may_leave moment reach said asked from mid now halt answer
+      → Before (Unbegun image may_leave moment reach said asked from mid h []) ⊥
+      (GenGoes image may_leave moment reach said asked from mid text h number count) (Some halt)
+      → GenGoes image may_leave moment reach said asked from now text h number count
+  gen-goes text h number count closes before = ⊎_elim
+      (λ silent. subst (λ (d : D). GenGoes image may_leave moment reach said asked from d text h number count) (sym silent.1)
+      (goes-before _ _ _ halt (λ u. inl (inl (nothing-said h u))) (λ c. absurd c) before))
+      (λ last. goes-line image may_leave moment reach said asked from mid now answer ⊥ ⊥
+      (GenGoes image may_leave moment reach said asked from mid text h number count) _ h halt
       (λ u. inl (inl u)) (λ c. c) (λ c. absurd c) last before) closes

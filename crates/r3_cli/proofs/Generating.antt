@@ -1,5 +1,7 @@
 -- The generator's call, of which the summary alone is said.
-use Rattle.std.proofs.Common.{◌≡◌, ◌⊎◌, inl, inr, ⊎_elim, ℕ, ◌≤◌, ◌^◌, List, [], ◌∷◌, ◌++◌, length, take, Option, Some, None, refl, sym, ap, ◌∙◌, subst}
+use Rattle.std.proofs.Common.{◌≡◌, ◌⊎◌, inl, inr, ⊎_elim, ℕ, List, [], ◌∷◌, length, take, Option, Some, refl, sym, ap, ◌∙◌, subst}
+use Rattle.std.specs.Prelude.{Result, Ok, Err, ⊤}
+use Rattle.std.specs.Option.{ForSome}
 use Rattle.fn_tree.specs.declared.program.Item.{Item}
 use Rattle.r3_entry.specs.declared.entry.Entry.{Entry}
 use Rattle.r3_entry.specs.Image.{IsHistoryOf}
@@ -12,11 +14,66 @@ use Rattle.r3_model.specs.Generator.{generated}
 use Rattle.r3_model.specs.Language.{Text}
 use Rattle.r3_model.specs.Script.{Line}
 use Rattle.r3_exec.specs.declared.exec.Exec.{Exec}
+use Rattle.r3_recover.specs.Opened.{HasProgram, HasCause, IsHalted}
+use Rattle.r3_recover.specs.declared.ends.StartFault.{StartFault}
+use Rattle.r3_recover.specs.declared.ends.StartFault.TheVariants as starts
 use Rattle.r3_serve.specs.Served.{Quiet, Served}
 use Rattle.r3_gen.specs.Ran.{Ran, StoppedAmong, EndsEarly}
+use Rattle.r3_gen.specs.declared.fault.GenFault.{GenFault}
+use Rattle.r3_gen.specs.declared.fault.GenFault.TheVariants as gens
 use Rattle.r3_cli.specs.Functions.{IsAccepted}
+use Rattle.r3_cli.specs.Refusals.{IsOthers}
 use Rattle.r3_cli.specs.Going.{Unsaid, WithinUnsaid, Generating, GenGoes}
 use Rattle.r3_cli.proofs.Saying.{push-none}
+use Rattle.r3_cli.proofs.Refusing.{Opening-of, Others-of}
+use Rattle.r3_cli.proofs.Working.{same-history}
+
+-- ---- the opening
+
+pub no-fault : {T : Type 0} (x : T) (fault : GenFault) → ◌≡◌ {A = Result T GenFault} (Ok x) (Err fault) → ⊥
+no-fault x fault is = cc
+
+pub at-start : {T : Type 0} (fault : GenFault) (start other : StartFault) → fault ≡ gens.Start start → start ≡ other → ◌≡◌ {A = Result T GenFault} (Err fault) (Err (gens.Start other))
+at-start fault start other at is = cc
+
+start-same : (fault : GenFault) (a b : StartFault) → fault ≡ gens.Start a → fault ≡ gens.Start b → a ≡ b
+start-same fault a b first second = cc
+
+pub gen-others : (image : Option Text) (text : Text) (fault : GenFault) (start : StartFault) → fault ≡ gens.Start start
+    → ((h : List Entry) → ForSome image (λ i. IsHistoryOf h i → (HasProgram h text → ⊥) → (s : StartFault) × (fault ≡ gens.Start s) × ((s ≡ starts.Other) ⊎ IsHalted s)))
+    → Others-of image text start
+gen-others image text fault start at other = λ h i there history none.
+    let x = other h i there history none in
+    subst (λ (s : StartFault). (s ≡ starts.Other) ⊎ IsHalted s) (start-same fault x.0 start x.1 at) x.2
+
+other-halted : IsHalted starts.Other → ⊥
+other-halted h = ⊎_elim (λ d. let e : starts.Other ≡ starts.Disk = d in cc) (λ m. let e : starts.Other ≡ starts.Memory = m in cc) h
+
+-- a store of these functions isn't refused
+pub gen-is-taken : (image : Option Text) (text i : Text) (h : List Entry) (start : StartFault) → start ≡ starts.Other → Opening-of image text start
+    → image ≡ Some i → IsHistoryOf h i → HasProgram h text → ⊥
+gen-is-taken image text i h start at opens there history has = other-halted (subst IsHalted at (opens h i there history has))
+
+pub gen-not-this : (image : Option Text) (text : Text) (start : StartFault) → start ≡ starts.Other → Opening-of image text start
+    → HasCause image text start → IsOthers text image
+gen-not-this image text start at opens caused =
+    let cause : HasCause image text starts.Other = subst (λ (x : StartFault). HasCause image text x) at caused in
+    λ i there.
+        let x = cause i there in
+        ((x.0, x.1), λ h history has. gen-is-taken image text i h start at opens there history has)
+
+-- what comes behind an opening
+abbrev pub IsLater : GenFault → Type 0
+IsLater (gens.Start start) = ⊥
+IsLater fault = ⊤
+
+not-start : (fault : GenFault) (start : StartFault) → IsLater fault → fault ≡ gens.Start start → ⊥
+not-start fault start later is = let bad : IsLater (gens.Start start) = subst IsLater is later in bad
+
+err-start : {T : Type 0} (fault : GenFault) (start : StartFault) → ◌≡◌ {A = Result T GenFault} (Err fault) (Err (gens.Start start)) → fault ≡ gens.Start start
+err-start fault start is = cc
+
+-- ---- the lines
 
 take-length : (h : List Entry) → take (length h) h ≡ h
 take-length [] = refl
@@ -74,3 +131,15 @@ module _ {D : Type 0} (size : D → Option ℕ) (image : D → Option Text) (may
   gen-ended from now text h k number count items accepted history ran =
       let there : Generating image may_leave moment reach said asked from now (language_of items) text k number count = inr (ran.0, [], ran.1) in
       inr (items, accepted, subst (λ (h' : List Entry). Generating image may_leave moment reach said asked from now (language_of items) text h' number count) history there)
+
+  -- a run that wasn't ended by its opening
+  pub gen-stopped : {T : Type 0} → Reads → Settles → ((c : Text) (a b : List Entry) → IsHistoryOf a c → IsHistoryOf b c → a ≡ b)
+      → (from now : D) (text c : Text) (h : List Entry) (number count : ℕ) (items : List Item) → IsAccepted text items
+      → image from ≡ Some c → IsHistoryOf h c → (fault : GenFault) → IsLater fault
+      → ((start : StartFault) × (◌≡◌ {A = Result T GenFault} (Err fault) (Err (gens.Start start))))
+      ⊎ ((k : List Entry) × ForSome (image from) (IsHistoryOf k) × HasProgram k text × (exec : Exec) × (exec.program ≡ items)
+      × EndsEarly size image may_leave moment reach said asked from now exec text k (generated number count) count)
+      → GenGoes image may_leave moment reach said asked from now text h number count
+  gen-stopped {T} reads crash one from now text c h number count items accepted is history fault later stopped = ⊎_elim
+      (λ s. absurd (not-start fault s.0 later (err-start fault s.0 s.1)))
+      (λ x. gen-early reads crash from now x.3 text h x.0 number count items accepted x.4 (same-history one (image from) c x.0 h x.1 is history) x.5) stopped

@@ -6,3 +6,4 @@ pub mod Running
 pub mod Refusing
 pub mod Causing
 pub mod Closing
+pub mod Generating
