@@ -14,6 +14,7 @@ use Rattle.r3_model.specs.Event.{Call}
 use Rattle.r3_model.specs.Script.{Line}
 use Rattle.r3_exec.specs.Does.{told_after, told_of}
 use Rattle.r3_serve.specs.Served.{Loud, said_of}
+use Rattle.r3_serve.specs.Scripted.{ended_script_lines}
 use Rattle.r3_cli.specs.Statuses.{status_of, last_line, IsBroken, IsFault}
 use Rattle.r3_cli.specs.Refusals.{IsRefusal, IsFileRefusal}
 use Rattle.r3_cli.specs.Answered.{Says, Answered, LeavesPrefix}
@@ -147,20 +148,33 @@ module _ {D : Type 0} (image : D → Option Text) (may_leave : D → Text → Ty
 
   unbegun-line : (h : List Entry) (halt : Halt) → SaysLast image may_leave moment reach said asked mid now halt answer
       → Unbegun image may_leave moment reach said asked from mid h [] → (line : Text) × IsCut line × Unbegun image may_leave moment reach said asked from now h line
-  unbegun-line h halt last u = (last.line, (halt, last.rest, last.cut), record {
-    says = says-then image said asked from mid now [] last.line u.says last.says;
-    settled = λ c may. u.settled c (last.pending c may);
-    leaves = leaves-more image may_leave moment reach said asked from mid now h (length h) [] last.line u.leaves u.settled last.pending last.time
-        (let S : Option Text → Type 0 = λ x. told_len (said from) ≤ told_len x in subst S (sym u.says.told) (push-up (said from) []))
-        (let S : Option Text → Type 0 = λ x. told_len (said mid) ≤ told_len x in subst S (sym last.says.told) (push-up (said mid) last.line))
-        (let S : Option (List desk.Call) → Type 0 = λ x. told_len (asked from) ≤ told_len x in subst S (sym u.says.asks) (omega arith))
-        (let S : Option (List desk.Call) → Type 0 = λ x. told_len (asked mid) ≤ told_len x in subst S (sym last.says.asks) (omega arith));
-  })
+  unbegun-line h halt last u = (
+    last.line,
+    (halt, last.rest, last.cut),
+    record {
+      says = says-then image said asked from mid now [] last.line u.says last.says;
+      settled = λ c may. u.settled c (last.pending c may);
+      leaves = leaves-more image may_leave moment reach said asked from mid now h (length h) [] last.line u.leaves u.settled last.pending last.time
+          (let S : Option Text → Type 0 = λ x. told_len (said from) ≤ told_len x in subst S (sym u.says.told) (push-up (said from) []))
+          (let S : Option Text → Type 0 = λ x. told_len (said mid) ≤ told_len x in subst S (sym last.says.told) (push-up (said mid) last.line))
+          (let S : Option (List desk.Call) → Type 0 = λ x. told_len (asked from) ≤ told_len x in subst S (sym u.says.asks) (omega arith))
+          (let S : Option (List desk.Call) → Type 0 = λ x. told_len (asked mid) ≤ told_len x in subst S (sym last.says.asks) (omega arith));
+    },
+  )
 
   cut-off-line : (text : Text) (h : List Entry) (script : Text) (halt : Halt) → SaysLast image may_leave moment reach said asked mid now halt answer
-      → IsCutOff image may_leave moment reach said asked from mid text h script → IsCutOff image may_leave moment reach said asked from now text h script
-  cut-off-line text h script halt last c =
-      (c.0, c.1, (c.2.0, last.line, (halt, last.rest, last.cut), answered-line image may_leave moment reach said asked from mid now halt answer (language_of c.0) text h _ last c.2.3))
+      → IsCutOff image may_leave moment reach said asked from mid text h script []
+      → (line : Text) × IsCut line × IsCutOff image may_leave moment reach said asked from now text h script line
+  cut-off-line text h script halt last c = (
+    last.line,
+    (halt, last.rest, last.cut),
+    (
+      c.0,
+      c.1,
+      c.2,
+      answered-line image may_leave moment reach said asked from mid now halt answer (language_of c.0) text h (ended_script_lines (take (2 ^ 26) script)) last c.3,
+    ),
+  )
 
   -- where a last line was said, nothing or a script that is too long has gone before
   goes-line : (Cut Cut' Goes Goes' : Type 0) (h : List Entry) (halt : Halt)
@@ -201,14 +215,14 @@ module _ {D : Type 0} (image : D → Option Text) (may_leave : D → Text → Ty
   nothing-said h u = ([], (halt, last_line halt, no-line halt), u)
 
   pub run-goes : (text : Text) (h : List Entry) (script : Text) → Closes image may_leave moment reach said asked from mid now halt answer
-      → Before (Unbegun image may_leave moment reach said asked from mid h []) (IsCutOff image may_leave moment reach said asked from mid text h script)
+      → Before (Unbegun image may_leave moment reach said asked from mid h []) (IsCutOff image may_leave moment reach said asked from mid text h script [])
       (RunGoes image may_leave moment reach said asked from mid text h script) (Some halt)
       → RunGoes image may_leave moment reach said asked from now text h script
   run-goes text h script closes before = ⊎_elim
       (λ silent. subst (λ (d : D). RunGoes image may_leave moment reach said asked from d text h script) (sym silent.1)
-      (goes-before _ _ _ halt (λ u. inl (inl (nothing-said h u))) (λ c. inr (inl c)) before))
-      (λ last. goes-line image may_leave moment reach said asked from mid now answer _
-      (IsCutOff image may_leave moment reach said asked from now text h script) (RunGoes image may_leave moment reach said asked from mid text h script) _ h halt
+      (goes-before _ _ _ halt (λ u. inl (inl (nothing-said h u))) (λ c. inr (inl ([], (halt, last_line halt, no-line halt), c))) before))
+      (λ last. goes-line image may_leave moment reach said asked from mid now answer (IsCutOff image may_leave moment reach said asked from mid text h script [])
+      ((line : Text) × IsCut line × IsCutOff image may_leave moment reach said asked from now text h script line) (RunGoes image may_leave moment reach said asked from mid text h script) _ h halt
       (λ u. inl (inl u)) (cut-off-line image may_leave moment reach said asked from mid now answer text h script halt last) (λ c. inr (inl c)) last before) closes
 
   pub recover-goes : (text : Text) (h : List Entry) (turns : ℕ) → Closes image may_leave moment reach said asked from mid now halt answer

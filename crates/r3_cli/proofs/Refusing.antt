@@ -115,7 +115,10 @@ no-store image text start fault at opens others caused entry is =
       λ i there store.
           let p : HasProgram store.0 text → ⊥ = λ has. halted (opens store.0 i there store.1 has) in
           ⊎_elim (λ o. let e : starts.Store fault ≡ starts.Other = sym at ∙ o in cc) (λ h. halted h) (others store.0 i there store.1 p),
-      (fault, cause.0, cause.1, is),
+      fault,
+      cause.0,
+      cause.1,
+      is,
     )
 
 -- a store of this program isn't refused

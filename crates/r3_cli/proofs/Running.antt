@@ -89,5 +89,5 @@ module _ {D : Type 0} (size : D → Option ℕ) (image : D → Option Text) (may
       (items, opened.file.1, within-first size image may_leave moment reach said asked from now items text h line at)
 
   pub goes-cut : (script : Text) → (2 ^ 26 < length script) × Went (ended_script_lines (take (2 ^ 26) script))
-      → IsCutOff image may_leave moment reach said asked from now text h script
-  goes-cut script went = (exec.program, here.file.1, (went.0, [], (halts.Memory, [], refl), done (ended_script_lines (take (2 ^ 26) script)) went.1))
+      → IsCutOff image may_leave moment reach said asked from now text h script []
+  goes-cut script went = (exec.program, here.file.1, went.0, done (ended_script_lines (take (2 ^ 26) script)) went.1)

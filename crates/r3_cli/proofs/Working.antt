@@ -73,6 +73,9 @@ module _ {D : Type 0} (size : D → Option ℕ) (image : D → Option Text) (may
       → (from now : D) (exec : Exec) (text : Text) (h : List Entry) (script : Text)
       → StoppedIn size image may_leave moment reach said asked from now exec text h [] script
       → Within image may_leave moment reach said asked from now (language_of exec.program) text h (script_lines script)
-  within-script reads crash from now exec text h script s =
-      (s.done, s.later, s.of_script,
-      ⊎_elim (λ all. inl (answered reads crash from now exec text h s.done all)) (λ part. inr part) s.state)
+  within-script reads crash from now exec text h script s = (
+    s.done,
+    s.later,
+    s.of_script,
+    ⊎_elim (λ all. inl (answered reads crash from now exec text h s.done all)) (λ part. inr part) s.state,
+  )

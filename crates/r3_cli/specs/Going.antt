@@ -63,11 +63,11 @@ module _ {D : Type 0} (told_image : D → Option Text) (may_leave : D → Text �
       ⊎ ((line : Line) × (more : List Line) × (later ≡ line ∷ more)
       × Stopped told_image moment reach said asked from now P Loud text h done line))
 
-  -- the script is too long, and a last line or a part of it is said behind the replies
-  abbrev pub CutOff : Language → Text → List Entry → Text → Type 0
-  CutOff P text h script =
-      (2 ^ 26 < length script) × (line : Text) × IsCut line
-      × Answered told_image may_leave moment reach said asked from now P text h (ended_script_lines (take (2 ^ 26) script)) line
+  -- The script is too long: the lines that end within the limit were answered, and behind their replies this was said.
+  abbrev pub IsCutOff : Text → List Entry → Text → Text → Type 0
+  IsCutOff text h script line =
+      (items : List Item) × IsAccepted text items × (2 ^ 26 < length script)
+      × Answered told_image may_leave moment reach said asked from now (language_of items) text h (ended_script_lines (take (2 ^ 26) script)) line
 
   -- no line was answered
   abbrev pub NotBegun : Text → List Entry → Type 0
@@ -75,13 +75,9 @@ module _ {D : Type 0} (told_image : D → Option Text) (may_leave : D → Text �
       ((line : Text) × IsCut line × Unbegun told_image may_leave moment reach said asked from now h line)
       ⊎ ((items : List Item) × IsAccepted text items × Opening (language_of items) text h)
 
-  -- a script that is too long was cut off
-  abbrev pub IsCutOff : Text → List Entry → Text → Type 0
-  IsCutOff text h script = (items : List Item) × IsAccepted text items × CutOff (language_of items) text h script
-
   abbrev pub RunGoes : Text → List Entry → Text → Type 0
   RunGoes text h script =
-      NotBegun text h ⊎ IsCutOff text h script
+      NotBegun text h ⊎ ((line : Text) × IsCut line × IsCutOff text h script line)
       ⊎ ((items : List Item) × IsAccepted text items × Within (language_of items) text h (script_lines script))
 
   abbrev pub RecoverGoes : Text → List Entry → ℕ → Type 0

@@ -1,5 +1,8 @@
 //! Whole runs over an environment in memory: bytes said, bytes stored and statuses worked out by hand.
 
+ghost use Rattle.std.specs.Prelude.{IfOk};
+ghost use Rattle.r3_desk.specs.Crash.{NothingPending};
+
 mod bank;
 mod crashes;
 mod files;
@@ -9,8 +12,7 @@ mod stores;
 mod workflows;
 
 use crate::top::top;
-use r3_desk::{MemDesk, MemShelf, MemSource, Room};
-use r3_value::Outcome;
+use r3_desk::{Desk, MemDesk, MemShelf, MemSource, Room};
 use std::alloc::Global;
 use std::test::Fail;
 
@@ -57,13 +59,18 @@ fn words_of(alloc: Global, words: &[&str]) -> Result<Vec<String>, Fail> {
     Ok(given)
 }
 
-fn desk_over(alloc: Global, image: &[u8], fails: u64) -> Result<MemDesk, Fail> {
+fn desk_over(alloc: Global, image: &[u8], fails: u64) -> Result<MemDesk, Fail>
+    ensures { IfOk result (λ desk.
+        NothingPending (⟦<MemDesk as Desk>⟧.image desk) (⟦<MemDesk as Desk>⟧.may_leave desk)) }
+{
     let room = Room {
         calls: 2_000,
         bytes: 400_000,
     };
-    let answers: Vec<Outcome> = Vec::new(alloc);
-    Ok(MemDesk::new(alloc, image.to_vec(alloc)?, answers, list_of(alloc, fails)?, room)?)
+    let image = image.to_vec(alloc)?;
+    let fails = list_of(alloc, fails)?;
+    let desk = MemDesk::new(alloc, image, Vec::new(alloc), fails, room)?;
+    Ok(desk)
 }
 
 fn shelf_of(alloc: Global, text: &[u8], fails: u64) -> Result<MemShelf, Fail> {

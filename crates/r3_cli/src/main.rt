@@ -4,9 +4,9 @@
 //! the one that the words, the files and the script reach. `main` hands it the real ones.
 #![tactic(auto)]
 
+mod begin;
 #[cfg(test)]
 mod cases;
-mod begin;
 mod check;
 mod counts;
 mod files;

@@ -41,7 +41,7 @@ pub fn run<D: Desk, S: Source, F: Shelf>(
     ensures goes { (text image script : Text) (h : List Entry) → F.text_of shelf.old path.now ≡ Some text →
         D.image desk.old ≡ Some image → S.left source.old ≡ Some script → IsHistoryOf h image → HasProgram h text →
         Before (Unbegun D.image D.may_leave D.moment D.reach D.said D.asked desk.old desk.new h [])
-        (IsCutOff D.image D.may_leave D.moment D.reach D.said D.asked desk.old desk.new text h script)
+        (IsCutOff D.image D.may_leave D.moment D.reach D.said D.asked desk.old desk.new text h script [])
         (RunGoes D.image D.may_leave D.moment D.reach D.said D.asked desk.old desk.new text h script) (end_of result) }
     ensures causes { (text : Text) → F.text_of shelf.old path.now ≡ Some text →
         IfErr result (HasCause (run_form path.now) text (D.image desk.old) (S.left source.old)) }

@@ -48,7 +48,7 @@ fn command<D: Desk, S: Source, F: Shelf>(
         F.text_of shelf.old functions ≡ Some text → D.image desk.old ≡ Some image → S.left script.old ≡ Some lines →
         IsHistoryOf h image → HasProgram h text →
         Before (Unbegun D.image D.may_leave D.moment D.reach D.said D.asked desk.old desk.new h [])
-        (IsCutOff D.image D.may_leave D.moment D.reach D.said D.asked desk.old desk.new text h lines)
+        (IsCutOff D.image D.may_leave D.moment D.reach D.said D.asked desk.old desk.new text h lines [])
         (RunGoes D.image D.may_leave D.moment D.reach D.said D.asked desk.old desk.new text h lines) (end_of result) }
     ensures recovers { (functions text : Text) (turns : ℕ) →
         asked_by (map string_bytes words.now) ≡ Some (recover_form functions turns) →

@@ -2,20 +2,25 @@
 
 use super::bank::BANK;
 use super::{Fails, Left, NONE, RUN, left_by};
-use r3_desk::Torn;
+use r3_desk::{MemDesk, Torn};
 use std::alloc::Global;
 use std::test::Fail;
 
 // Each line, and the number of entries once it is answered.
-const LINES: [(&str, usize); 8] = [
-    ("{\"load\":\"acct\",\"rows\":{\"a\":10,\"b\":5,\"c\":0}}\n", 2),
-    ("{\"start\":\"m1\",\"fn\":\"move\",\"args\":[\"a\",\"b\",3]}\n", 3),
+const LINES: [(&str, usize); 7] = [
+    (
+        "{\"load\":\"acct\",\"rows\":{\"a\":10,\"b\":5,\"c\":0}}\n",
+        2,
+    ),
+    (
+        "{\"start\":\"m1\",\"fn\":\"move\",\"args\":[\"a\",\"b\",3]}\n",
+        3,
+    ),
     ("{\"turn\":\"m1\"}\n", 3),
     ("{\"turn\":\"m1\"}\n", 4),
     ("{\"turn\":\"m1\"}\n", 5),
     ("{\"turn\":\"m1\"}\n", 6),
     ("{\"turn\":\"m1\"}\n", 6),
-    ("{\"get\":\"acct\",\"key\":\"a\"}\n", 6),
 ];
 
 const OPEN: u8 = 0xa5;
@@ -65,11 +70,25 @@ fn acknowledged(said: &[u8]) -> usize {
     }
 }
 
+// What a crash leaves after so many device calls.
+fn crash(desk: &MemDesk, moment: u64, torn: Torn) -> Result<Vec<u8>, Fail> {
+    if moment > desk.moment() {
+        return Err(Fail::from("no such moment"));
+    }
+    let image = desk.crash(moment, torn)?;
+    Ok(image)
+}
+
 // Whether the transfer, started once more, runs to its end; it fails where there is no money to move.
 fn runs_on(alloc: Global, image: &[u8], entries: usize) -> Result<bool, Fail> {
-    let script = b"{\"start\":\"m1\",\"fn\":\"move\",\"args\":[\"a\",\"b\",3]}\n{\"drain\":100}\n{\"turn\":\"m1\"}\n";
+    let script =
+        b"{\"start\":\"m1\",\"fn\":\"move\",\"args\":[\"a\",\"b\",3]}\n{\"drain\":100}\n{\"turn\":\"m1\"}\n";
     let left = left_by(alloc, RUN, image, BANK.as_bytes(), script, &NONE)?;
-    let end: &[u8] = if entries < 2 { b"{\"none\":\"ERROR\"}\n" } else { b"{\"none\":\"SUCCESS\"}\n" };
+    let end: &[u8] = if entries < 2 {
+        b"{\"none\":\"ERROR\"}\n"
+    } else {
+        b"{\"none\":\"SUCCESS\"}\n"
+    };
     Ok(left.status == 0 && left.said.ends_with(end))
 }
 
@@ -79,18 +98,22 @@ fn a_crash_leaves_a_prefix_with_all_that_was_acknowledged(rt: HostRuntime) -> Re
     let files = files(alloc)?;
     let whole = left_after(alloc, LINES.len(), &NONE)?;
     let mut least = 0;
-    for call in 1..=whole.desk.moment() {
-        let fails = Fails { desk: call, ..NONE };
+    for before in 0..=whole.desk.moment() {
+        let fails = Fails {
+            desk: before.saturating_add(1),
+            ..NONE
+        };
         let cut = left_after(alloc, LINES.len(), &fails)?;
-        // Where the outside fails the run goes on.
+        // Where the outside fails, or nothing, the run goes on.
         if cut.status != 0 {
             least = acknowledged(&cut.said);
         }
         for torn in TORN {
-            let image = whole.desk.crash(call - 1, torn)?;
+            let image = crash(&whole.desk, before, torn)?;
             let entries = entries_of(&image, &files);
-            assert!(rt; entries >= Some(least), "call {call}");
-            assert!(rt; runs_on(alloc, &image, entries.unwrap_or(0))?, "call {call}");
+            assert!(rt; entries >= Some(least), "{torn:?} after {before} calls");
+            let goes_on = runs_on(alloc, &image, entries.unwrap_or(0))?;
+            assert!(rt; goes_on, "{torn:?} after {before} calls");
         }
     }
     Ok(())
@@ -101,19 +124,20 @@ fn a_call_that_fails_ends_the_run_or_is_made_again(rt: HostRuntime) -> Result<()
     let alloc = rt.alloc();
     let files = files(alloc)?;
     let whole = left_after(alloc, LINES.len(), &NONE)?;
-    let mut again = 0;
+    let mut again = 0_u32;
     for call in 1..=whole.desk.moment() {
         let fails = Fails { desk: call, ..NONE };
         let left = left_after(alloc, LINES.len(), &fails)?;
         if left.status == 0 {
             assert_eq!(rt; left.said.as_slice(), ASKED_AGAIN.as_bytes());
-            again += 1;
+            again = again.saturating_add(1);
         } else {
             assert!(rt; left.status == 4 || left.status == 5, "call {call}");
             assert!(rt; whole.said.starts_with(&left.said), "call {call}");
         }
         let entries = entries_of(left.desk.image(), &files).unwrap_or(0);
-        assert!(rt; runs_on(alloc, left.desk.image(), entries)?, "call {call}");
+        let goes_on = runs_on(alloc, left.desk.image(), entries)?;
+        assert!(rt; goes_on, "call {call}");
     }
     assert_eq!(rt; again, 1);
     Ok(())
@@ -126,5 +150,4 @@ const ASKED_AGAIN: &str = r#"{"entry":2}
 {"again":true}
 {"entry":5}
 {"entry":6}
-{"value":7}
 "#;

@@ -57,18 +57,34 @@ fn a_record_that_is_not_committed_is_written_over(rt: HostRuntime) -> Result<(),
 
 #[test]
 fn a_file_that_is_no_store_is_refused(rt: HostRuntime) -> Result<(), Fail> {
-    let script = b"{\"load\":\"acct\",\"rows\":{\"a\":10}}\n{\"load\":\"acct\",\"rows\":{\"b\":5}}\n";
+    let script =
+        b"{\"load\":\"acct\",\"rows\":{\"a\":10}}\n{\"load\":\"acct\",\"rows\":{\"b\":5}}\n";
     let two = left_by(rt.alloc(), RUN, b"", TINY.as_bytes(), script, &NONE)?;
     assert_eq!(rt; two.desk.image().len(), 128);
     let cut: &[u8] = two.desk.image().get(..126).unwrap_or(b"");
     let other = b"{\"fault\":\"program\"}\n".as_slice();
     // image, function file, status, last line
     let cases = [
-        (b"XXXXXXXXXX".as_slice(), TINY, 8, b"{\"entry\":0,\"fault\":\"store\"}\n".as_slice()),
+        (
+            b"XXXXXXXXXX".as_slice(),
+            TINY,
+            8,
+            b"{\"entry\":0,\"fault\":\"store\"}\n".as_slice(),
+        ),
         (cut, TINY, 8, b"{\"entry\":3,\"fault\":\"store\"}\n"),
-        (cut, "table acc2;", 8, b"{\"entry\":3,\"fault\":\"store\"}\n"),
+        (
+            cut,
+            "table acc2;",
+            8,
+            b"{\"entry\":3,\"fault\":\"store\"}\n",
+        ),
         (ONE_LOAD, "table acc2;", 9, other),
-        (cut, "table Acct;", 7, b"{\"at\":6,\"fault\":\"functions\",\"kind\":\"lex\"}\n"),
+        (
+            cut,
+            "table Acct;",
+            7,
+            b"{\"at\":6,\"fault\":\"functions\",\"kind\":\"lex\"}\n",
+        ),
     ];
     for (image, text, status, last) in cases {
         let left = left_by(rt.alloc(), RUN, image, text.as_bytes(), LOAD, &NONE)?;
@@ -115,7 +131,8 @@ fn a_reply_is_said_last_of_all(rt: HostRuntime) -> Result<(), Fail> {
     Ok(())
 }
 
-const SPOILED: u8 = 4;
+// The last byte of the step's outcome, from its name's length on.
+const LAST: usize = 16;
 
 #[test]
 fn a_store_that_is_formed_is_taken_up_as_it_is(rt: HostRuntime) -> Result<(), Fail> {
@@ -123,15 +140,25 @@ fn a_store_that_is_formed_is_taken_up_as_it_is(rt: HostRuntime) -> Result<(), Fa
 {"start":"m1","fn":"move","args":["a","b",3]}
 {"drain":100}
 "#;
-    let left = left_by(rt.alloc(), RUN, b"", BANK.as_bytes(), script.as_bytes(), &NONE)?;
+    let left = left_by(
+        rt.alloc(),
+        RUN,
+        b"",
+        BANK.as_bytes(),
+        script.as_bytes(),
+        &NONE,
+    )?;
     let mut image = left.desk.image().to_vec(rt.alloc())?;
     // The step's row is the first with the name `pay` behind its length: then come its kind, and its outcome 3.
     let row = b"\0\0\0\x03pay\0\0\x02\0\0\0\0\0\0\0\x03";
-    let Some(place) = image.windows(row.len()).position(|part| part == row.as_slice()) else {
+    let Some(place) = image
+        .windows(row.len())
+        .position(|part| part == row.as_slice())
+    else {
         return Ok(());
     };
-    if let Some(last) = image.get_mut(place + row.len() - 1) {
-        *last = SPOILED;
+    if let Some(last) = image.get_mut(place.saturating_add(LAST)) {
+        *last = 4;
     }
     let again = left_by(rt.alloc(), RUN, &image, BANK.as_bytes(), b"", &NONE)?;
     assert_eq!(rt; again.status, 0);

@@ -264,13 +264,21 @@ const NO_ID: (&str, &str) = (
 );
 
 const SCRIPTS: &[(&str, &str)] = &[
-    TRANSFER, CONFLICT, WRITE_SKEW, FILLED, OVERFILLED, FAILURES, QUEUE, WAITS, SPENT, REFUSED, CHILD, CANCELLED, NO_ID,
+    TRANSFER, CONFLICT, WRITE_SKEW, FILLED, OVERFILLED, FAILURES, QUEUE, WAITS, SPENT, REFUSED,
+    CHILD, CANCELLED, NO_ID,
 ];
 
 #[test]
 fn each_line_has_its_reply(rt: HostRuntime) -> Result<(), Fail> {
     for (script, replies) in SCRIPTS {
-        let left = left_by(rt.alloc(), RUN, b"", BANK.as_bytes(), script.as_bytes(), &NONE)?;
+        let left = left_by(
+            rt.alloc(),
+            RUN,
+            b"",
+            BANK.as_bytes(),
+            script.as_bytes(),
+            &NONE,
+        )?;
         assert_eq!(rt; left.said.as_slice(), replies.as_bytes(), "{script}");
         assert_eq!(rt; left.status, 0, "{script}");
     }
@@ -279,7 +287,14 @@ fn each_line_has_its_reply(rt: HostRuntime) -> Result<(), Fail> {
 
 #[test]
 fn the_outside_is_asked_once_for_each_step(rt: HostRuntime) -> Result<(), Fail> {
-    let left = left_by(rt.alloc(), RUN, b"", BANK.as_bytes(), TRANSFER.0.as_bytes(), &NONE)?;
+    let left = left_by(
+        rt.alloc(),
+        RUN,
+        b"",
+        BANK.as_bytes(),
+        TRANSFER.0.as_bytes(),
+        &NONE,
+    )?;
     // Of the first workflow, and of its fork from the step.
     let ids: [&str; 2] = ["m1", "m2"];
     assert_eq!(rt; left.asked, ids.len());

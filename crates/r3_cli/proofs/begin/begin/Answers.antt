@@ -68,9 +68,11 @@ returns-in-Err-Store-clause-refuses g c = λ text there.
     ) in
     let kept = c.in-Err-Store.ensures.kept c.in-Err-Store.fault (search rules) in
     inr (
-      ((c.in-Ok-accept.program, file),
-      no-store (g.D.Desk.image c.args.desk.now) c.as_str.result.now c.in-Err-Store.field-0 c.in-Err-Store.fault c.in-Err-Store.field-0-is
-      c.in-Err-Store.ensures.opens c.in-Err-Store.ensures.other c.in-Err-Store.ensures.causes c.entry_of.result c.entry_of.ensures),
+      (
+        (c.in-Ok-accept.program, file),
+        no-store (g.D.Desk.image c.args.desk.now) c.as_str.result.now c.in-Err-Store.field-0 c.in-Err-Store.fault c.in-Err-Store.field-0-is
+            c.in-Err-Store.ensures.opens c.in-Err-Store.ensures.other c.in-Err-Store.ensures.causes c.entry_of.result c.entry_of.ensures,
+      ),
       says-same g.D.Desk.image g.D.Desk.said g.D.Desk.asked c.args.desk.now c.open.new.desk c.open.ensures.said c.open.ensures.asked kept,
     )
 
