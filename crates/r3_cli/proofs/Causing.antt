@@ -81,7 +81,7 @@ abbrev pub Answers : ℕ → Halt → Type 0
 Answers answer halt = (answer ≡ 3) ⊎ ((answer ≡ 5) ⊎ (answer ≡ status_of halt))
 
 -- a status that is neither is its own
-own : (answer : ℕ) (halt : Halt) → Answers answer halt → (answer ≡ 3 → ⊥) → (answer ≡ 5 → ⊥) → answer ≡ status_of halt
+pub own : (answer : ℕ) (halt : Halt) → Answers answer halt → (answer ≡ 3 → ⊥) → (answer ≡ 5 → ⊥) → answer ≡ status_of halt
 own answer halt is three five = ⊎_elim (λ t. absurd (three t)) (λ rest. ⊎_elim (λ f. absurd (five f)) (λ s. s) rest) is
 
 module _ (form : Form) (text : Text) (image left : Option Text) (answer : ℕ) where

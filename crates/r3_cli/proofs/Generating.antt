@@ -33,8 +33,8 @@ use Rattle.r3_cli.proofs.Working.{same-history}
 pub no-fault : {T : Type 0} (x : T) (fault : GenFault) → ◌≡◌ {A = Result T GenFault} (Ok x) (Err fault) → ⊥
 no-fault x fault is = cc
 
-pub at-start : {T : Type 0} (fault : GenFault) (start other : StartFault) → fault ≡ gens.Start start → start ≡ other → ◌≡◌ {A = Result T GenFault} (Err fault) (Err (gens.Start other))
-at-start fault start other at is = cc
+pub at-start : {T : Type 0} (fault : GenFault) (start told : StartFault) → fault ≡ gens.Start start → start ≡ told → ◌≡◌ {A = Result T GenFault} (Err fault) (Err (gens.Start told))
+at-start fault start told at is = cc
 
 start-same : (fault : GenFault) (a b : StartFault) → fault ≡ gens.Start a → fault ≡ gens.Start b → a ≡ b
 start-same fault a b first second = cc
@@ -42,8 +42,8 @@ start-same fault a b first second = cc
 pub gen-others : (image : Option Text) (text : Text) (fault : GenFault) (start : StartFault) → fault ≡ gens.Start start
     → ((h : List Entry) → ForSome image (λ i. IsHistoryOf h i → (HasProgram h text → ⊥) → (s : StartFault) × (fault ≡ gens.Start s) × ((s ≡ starts.Other) ⊎ IsHalted s)))
     → Others-of image text start
-gen-others image text fault start at other = λ h i there history none.
-    let x = other h i there history none in
+gen-others image text fault start at others = λ h i there history none.
+    let x = others h i there history none in
     subst (λ (s : StartFault). (s ≡ starts.Other) ⊎ IsHalted s) (start-same fault x.0 start x.1 at) x.2
 
 other-halted : IsHalted starts.Other → ⊥

@@ -7,3 +7,4 @@ pub mod Refusing
 pub mod Causing
 pub mod Closing
 pub mod Generating
+pub mod Unread

@@ -1,6 +1,6 @@
 use Rattle.std.proofs.Common.{rules, ◌≡◌, ℕ, List, [], Option, Some, inl, sym, subst}
 use Rattle.r3_model.specs.Language.{Text}
-use Rattle.r3_cli.specs.Going.{RecoverGoes, Before, Unbegun}
+use Rattle.r3_cli.specs.Going.{RecoverGoes, GenGoes, Before, Unbegun}
 use Rattle.r3_cli.specs.Ends.{end_of}
 use Rattle.r3_cli.proofs.Leaving.{unbegun-first, not-begun}
 use Rattle.r3_cli.proofs.top.command.Goals as goal
@@ -29,3 +29,9 @@ returns-in-Recover-clause-recover_goes g c = λ functions text image turns h at 
     subst (λ (n : ℕ). Before (Unbegun g.D.Desk.image g.D.Desk.may_leave g.D.Desk.moment g.D.Desk.reach g.D.Desk.said g.D.Desk.asked c.args.desk.now c.recover.new.desk h []) ⊥
     (RecoverGoes g.D.Desk.image g.D.Desk.may_leave g.D.Desk.moment g.D.Desk.reach g.D.Desk.said g.D.Desk.asked c.args.desk.now c.recover.new.desk text h n) (end_of c.recover.result)) many
     (c.recover.ensures.goes text image h (subst (λ (p : Text). g.F.Shelf.text_of c.args.shelf.now p ≡ Some text) (sym same) there) is history has)
+
+pub returns-in-Err-clause-gen_goes : goal.returns-in-Err-clause-gen_goes
+returns-in-Err-clause-gen_goes g c = λ number count image h at is history has.
+    inl (not-begun g.D.Desk.image g.D.Desk.may_leave g.D.Desk.moment g.D.Desk.reach g.D.Desk.said g.D.Desk.asked c.args.desk.now c.args.desk.now _ h
+    (unbegun-first g.D.Desk.image g.D.Desk.may_leave g.D.Desk.moment g.D.Desk.reach g.D.Desk.said g.D.Desk.asked c.args.desk.now h image
+    (g.met.D.Desk.counts_now c.args.desk.now) (g.met.D.Desk.only_now c.args.desk.now) c.requires is history))
