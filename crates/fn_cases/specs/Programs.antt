@@ -8,8 +8,8 @@ use Rattle.fn_grammar.specs.Letters.{letters}
 use Rattle.fn_grammar.specs.Derivation.{IsProgram}
 use Rattle.fn_grammar.specs.Place.{IsPlace}
 use Rattle.fn_check.specs.FirstFault.{first_fault}
-use Rattle.fn_cases.specs.declared.program.NoProgram.{NoProgram}
-use Rattle.fn_cases.specs.declared.program.NoProgram.TheVariants as why
+use Rattle.fn_cases.specs.declared.reading.NoProgram.{NoProgram}
+use Rattle.fn_cases.specs.declared.reading.NoProgram.TheVariants as why
 
 -- the text is a program of these items
 pub record IsText (text : List ℕ) (items : List Item) : Type 0 where

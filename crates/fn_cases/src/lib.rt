@@ -5,10 +5,10 @@
 //! to the crates below.
 #![tactic(auto)]
 
+mod calling;
 #[cfg(test)]
 mod cases;
-mod program;
-mod transact;
+mod reading;
 
-pub use program::{NoProgram, program};
-pub use transact::transact;
+pub use calling::transact;
+pub use reading::{NoProgram, program};
