@@ -174,22 +174,28 @@ fn ran(alloc: Global, text: &str, name: &str, args: &str, view: &MemView) -> Res
     counted_txn::<Brand>(alloc, &functions, name, &args, view, Blank::new(1))
 }
 
-/// An answer of a name: a value as JSON, or a failure's word.
-type Step<'a> = (&'a str, Result<&'a str, &'a str>);
-
-fn answer(alloc: Global, name: &str, outcome: &Result<&str, &str>) -> Result<Answer, Fail> {
-    let outcome = match outcome {
-        Ok(json) => Outcome::Value(value_of(alloc, json)?),
-        Err(word) => Outcome::Failure(Txt::new(alloc, word)?),
-    };
+// `NAME=JSON` or `NAME!WORD`.
+fn answer(alloc: Global, step: &str) -> Result<Answer, Fail> {
+    if let Some((name, json)) = step.split_once('=') {
+        let name = Txt::new(alloc, name)?;
+        let outcome = Outcome::Value(value_of(alloc, json)?);
+        return Ok(Answer { name, outcome });
+    }
+    let (name, word) = step
+        .split_once('!')
+        .ok_or("an answer is a value or a failure")?;
     let name = Txt::new(alloc, name)?;
+    let outcome = Outcome::Failure(Txt::new(alloc, word)?);
     Ok(Answer { name, outcome })
 }
 
-fn answers(alloc: Global, steps: &[Step<'_>]) -> Result<Vec<Answer>, Fail> {
+/// The answers between blanks, each `NAME=JSON` or `NAME!WORD`.
+fn answers(alloc: Global, steps: &str) -> Result<Vec<Answer>, Fail> {
     let mut all = Vec::new(alloc);
-    for (name, outcome) in steps {
-        all.push(answer(alloc, name, outcome)?)?;
+    for step in steps.split(' ') {
+        if !step.is_empty() {
+            all.push(answer(alloc, step)?)?;
+        }
     }
     Ok(all)
 }
@@ -241,15 +247,10 @@ fn counted_flow<L: Ledger>(
 }
 
 /// How a workflow of a text ends on these answers.
-fn ended(
-    alloc: Global,
-    text: &str,
-    name: &str,
-    args: &str,
-    answers: &[Answer],
-) -> Result<String, Fail> {
+fn ended(alloc: Global, text: &str, name: &str, args: &str, steps: &str) -> Result<String, Fail> {
     let functions = program(alloc, text.as_bytes())?;
     let args = value_of(alloc, args)?;
-    let end = counted_flow::<Brand>(alloc, &functions, name, &args, answers, Blank::new(1))?;
+    let answers = answers(alloc, steps)?;
+    let end = counted_flow::<Brand>(alloc, &functions, name, &args, &answers, Blank::new(1))?;
     end_text(alloc, &end)
 }

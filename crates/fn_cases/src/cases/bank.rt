@@ -1,6 +1,6 @@
 //! A bank: transfers between accounts, in one transaction or step by step.
 
-use super::{Row, answers, counts_text, ended, map_of, ran, run_text, write_text};
+use super::{Row, counts_text, ended, map_of, ran, run_text, write_text};
 use std::test::Fail;
 
 pub const BANK: &str = r#"table acct;
@@ -128,48 +128,31 @@ fn a_bank_is_filled_with_1024_rows(rt: HostRuntime) -> Result<(), Fail> {
 fn workflows_go_on_with_their_answers(rt: HostRuntime) -> Result<(), Fail> {
     let alloc = rt.alloc();
     let abn = r#"["a","b",3]"#;
-    let paid = ("pay", Ok("3"));
-    let told = ("notify", Ok("null"));
     // a workflow, its arguments, the answers, and how it ends
     let cases = [
-        ("move", abn, [].as_slice(), r#"asks 0: txn pay ["a","b",3]"#),
-        ("move", abn, &[paid], r#"asks 1: outside notify ["b",3]"#),
-        ("move", abn, &[paid, told], "done 3"),
-        ("move", abn, &[paid, told, told], "done 3"),
-        ("draw", r#"["a","b",12]"#, &[("take", Ok("-2"))], "done -2"),
+        ("move", abn, "", r#"asks 0: txn pay ["a","b",3]"#),
+        ("move", abn, "pay=3", r#"asks 1: outside notify ["b",3]"#),
+        ("move", abn, "pay=3 notify=null", "done 3"),
+        ("move", abn, "pay=3 notify=null notify=1", "done 3"),
+        ("draw", r#"["a","b",12]"#, "take=-2", "done -2"),
         (
             "draw",
             r#"["a","b",16]"#,
-            &[("take", Err("short"))],
+            "take!short",
             "done fails with short",
         ),
-        ("fills", "[1025]", &[], "asks 0: txn fill [1025]"),
-        (
-            "fills",
-            "[1025]",
-            &[("fill", Err("size"))],
-            "done fails with size",
-        ),
-        ("both", abn, &[], r#"asks 0: child send ["a","b",3]"#),
-        (
-            "both",
-            abn,
-            &[("send", Ok(r#""c1""#))],
-            r#"asks 1: await await "c1""#,
-        ),
-        (
-            "both",
-            abn,
-            &[("send", Ok(r#""c1""#)), ("await", Ok("3"))],
-            "done 3",
-        ),
-        ("wait", r#"["w1"]"#, &[], r#"asks 0: await await "w1""#),
-        ("odd", "[1]", &[], r#"done "overflow""#),
-        ("odd", "[0]", &[], "done 0"),
-        ("spin", "[0]", &[], "done fails with budget"),
+        ("fills", "[1025]", "", "asks 0: txn fill [1025]"),
+        ("fills", "[1025]", "fill!size", "done fails with size"),
+        ("both", abn, "", r#"asks 0: child send ["a","b",3]"#),
+        ("both", abn, r#"send="c1""#, r#"asks 1: await await "c1""#),
+        ("both", abn, r#"send="c1" await=3"#, "done 3"),
+        ("wait", r#"["w1"]"#, "", r#"asks 0: await await "w1""#),
+        ("odd", "[1]", "", r#"done "overflow""#),
+        ("odd", "[0]", "", "done 0"),
+        ("spin", "[0]", "", "done fails with budget"),
     ];
     for (name, args, steps, want) in cases {
-        let given = ended(alloc, BANK, name, args, &answers(alloc, steps)?)?;
+        let given = ended(alloc, BANK, name, args, steps)?;
         assert_eq!(rt; given.as_str(), want, "of {name} {args}");
     }
     Ok(())

@@ -1,34 +1,28 @@
 //! Bodies of workflows on lists of answers.
 
 use super::bank::BANK;
-use super::{Step, answers, ended};
+use super::ended;
 use std::test::Fail;
 
 #[test]
 fn an_answer_of_another_name_is_not_taken(rt: HostRuntime) -> Result<(), Fail> {
     let alloc = rt.alloc();
     let abn = r#"["a","b",3]"#;
-    let paid = ("pay", Ok("3"));
     // a workflow, its arguments, the answers, and how it ends
     let cases = [
-        (
-            "move",
-            abn,
-            [("notify", Ok("null"))].as_slice(),
-            "unexpected 0: notify for pay",
-        ),
-        ("move", abn, &[paid, paid], "unexpected 1: pay for notify"),
+        ("move", abn, "notify=null", "unexpected 0: notify for pay"),
+        ("move", abn, "pay=3 pay=3", "unexpected 1: pay for notify"),
         (
             "both",
             abn,
-            &[("send", Ok(r#""c1""#)), ("wait", Ok("3"))],
+            r#"send="c1" wait=3"#,
             "unexpected 1: wait for await",
         ),
         // Names alone are compared: the answer to another wait is taken.
-        ("wait", r#"["w1"]"#, &[("await", Ok("7"))], "done 7"),
+        ("wait", r#"["w1"]"#, "await=7", "done 7"),
     ];
     for (name, args, steps, want) in cases {
-        let given = ended(alloc, BANK, name, args, &answers(alloc, steps)?)?;
+        let given = ended(alloc, BANK, name, args, steps)?;
         assert_eq!(rt; given.as_str(), want, "of {name} {args}");
     }
     Ok(())
@@ -41,16 +35,16 @@ fn a_handler_catches_all_but_budget_and_steps(rt: HostRuntime) -> Result<(), Fai
 flow f() { try { do call n(); return 1; } catch w { return w; } return 0; }";
     // the answers, and how the workflow ends
     let cases = [
-        ([].as_slice(), "asks 0: outside n []"),
-        (&[("n", Ok("null"))], "done 1"),
-        (&[("n", Err("no"))], r#"done "no""#),
-        (&[("n", Err("budget"))], "done fails with budget"),
-        (&[("n", Err("steps"))], "done fails with steps"),
-        (&[("m", Err("no"))], "unexpected 0: m for n"),
+        ("", "asks 0: outside n []"),
+        ("n=null", "done 1"),
+        ("n!no", r#"done "no""#),
+        ("n!budget", "done fails with budget"),
+        ("n!steps", "done fails with steps"),
+        ("m!no", "unexpected 0: m for n"),
     ];
     for (steps, want) in cases {
-        let given = ended(alloc, text, "f", "[]", &answers(alloc, steps)?)?;
-        assert_eq!(rt; given.as_str(), want);
+        let given = ended(alloc, text, "f", "[]", steps)?;
+        assert_eq!(rt; given.as_str(), want, "with {steps}");
     }
     Ok(())
 }
@@ -68,7 +62,7 @@ fn a_workflow_is_called_with_its_arguments(rt: HostRuntime) -> Result<(), Fail> 
         ("wait", "[1]", "done fails with type"),
     ];
     for (name, args, want) in cases {
-        let given = ended(alloc, BANK, name, args, &[])?;
+        let given = ended(alloc, BANK, name, args, "")?;
         assert_eq!(rt; given.as_str(), want, "of {name} {args}");
     }
     Ok(())
@@ -90,12 +84,10 @@ flow f(k) {
         (1000, 1001, "done fails with steps"),
         (1001, 1001, "done fails with steps"),
     ];
-    let step: Step<'_> = ("n", Ok("null"));
     for (count, asks, want) in cases {
-        let mut steps = Vec::new(alloc);
-        steps.resize(count, step)?;
+        let steps = "n=null ".repeat(alloc, count)?;
         let args = format!(in alloc; "[{asks}]")?;
-        let given = ended(alloc, text, "f", &args, &answers(alloc, &steps)?)?;
+        let given = ended(alloc, text, "f", &args, &steps)?;
         assert_eq!(rt; given.as_str(), want, "{asks} asks with {count} answers");
     }
     Ok(())
@@ -111,7 +103,7 @@ flow f(t) { try { do call n(t, 1); } catch w { return w; } return 0; }";
         let long = "t".repeat(alloc, bytes)?;
         let asked = format!(in alloc; "asks 0: outside n [\"{long}\",1]")?;
         let args = format!(in alloc; "[\"{long}\"]")?;
-        let given = ended(alloc, text, "f", &args, &[])?;
+        let given = ended(alloc, text, "f", &args, "")?;
         let want = if fits {
             asked.as_str()
         } else {
