@@ -167,11 +167,22 @@ fn counted_txn<L: Ledger>(
     Ok(run.ok_or("no transaction is called so")?)
 }
 
+// The same, counted for nobody.
+fn plain_txn(
+    alloc: Global,
+    functions: &Checked,
+    name: &str,
+    args: &Val,
+    view: &MemView,
+) -> Result<TxnRun, Fail> {
+    counted_txn::<Brand>(alloc, functions, name, args, view, Blank::new(1))
+}
+
 /// What a transaction of a text gives on a map.
 fn ran(alloc: Global, text: &str, name: &str, args: &str, view: &MemView) -> Result<TxnRun, Fail> {
     let functions = program(alloc, text.as_bytes())?;
     let args = value_of(alloc, args)?;
-    counted_txn::<Brand>(alloc, &functions, name, &args, view, Blank::new(1))
+    plain_txn(alloc, &functions, name, &args, view)
 }
 
 // `NAME=JSON` or `NAME!WORD`.
@@ -246,11 +257,22 @@ fn counted_flow<L: Ledger>(
     Ok(end)
 }
 
+// The same, counted for nobody.
+fn plain_flow(
+    alloc: Global,
+    functions: &Checked,
+    name: &str,
+    args: &Val,
+    answers: &[Answer],
+) -> Result<FlowEnd, Fail> {
+    counted_flow::<Brand>(alloc, functions, name, args, answers, Blank::new(1))
+}
+
 /// How a workflow of a text ends on these answers.
 fn ended(alloc: Global, text: &str, name: &str, args: &str, steps: &str) -> Result<String, Fail> {
     let functions = program(alloc, text.as_bytes())?;
     let args = value_of(alloc, args)?;
     let answers = answers(alloc, steps)?;
-    let end = counted_flow::<Brand>(alloc, &functions, name, &args, &answers, Blank::new(1))?;
+    let end = plain_flow(alloc, &functions, name, &args, &answers)?;
     end_text(alloc, &end)
 }
