@@ -109,13 +109,13 @@ fn a_bank_is_filled_with_1024_rows(rt: HostRuntime) -> Result<(), Fail> {
         counts_text(alloc, &run)?.as_str(),
         "1024; 0 looks; 1024 writes"
     );
-    let mut last = 0;
+    let mut is_written = false;
     for write in run.writes.as_slice() {
         if write_text(alloc, write)?.as_str() == "acct/k1023=1023" {
-            last += 1;
+            is_written = true;
         }
     }
-    assert_eq!(rt; last, 1, "rows k1023");
+    assert!(rt; is_written, "row k1023");
     let run = ran(alloc, BANK, "fill", "[1025]", &view)?;
     assert_eq!(rt;
         counts_text(alloc, &run)?.as_str(),
