@@ -153,7 +153,7 @@ fn counts_text(alloc: Global, run: &TxnRun) -> Result<String, Fail> {
 fn counted_txn<L: Ledger>(
     alloc: Global,
     functions: &Checked,
-    name: &str,
+    called: &Txt,
     args: &Val,
     view: &MemView,
     blank: Blank,
@@ -163,7 +163,7 @@ fn counted_txn<L: Ledger>(
     requires some { 0 < blank.parts }
 {
     let mut steps = Steps::<L>::new(blank);
-    let run = transact(alloc, functions, name, args, view, &mut steps)?;
+    let run = transact(alloc, functions, called.as_str(), args, view, &mut steps)?;
     Ok(run.ok_or("no transaction is called so")?)
 }
 
@@ -171,18 +171,19 @@ fn counted_txn<L: Ledger>(
 fn plain_txn(
     alloc: Global,
     functions: &Checked,
-    name: &str,
+    called: &Txt,
     args: &Val,
     view: &MemView,
 ) -> Result<TxnRun, Fail> {
-    counted_txn::<Brand>(alloc, functions, name, args, view, Blank::new(1))
+    counted_txn::<Brand>(alloc, functions, called, args, view, Blank::new(1))
 }
 
 /// What a transaction of a text gives on a map.
 fn ran(alloc: Global, text: &str, name: &str, args: &str, view: &MemView) -> Result<TxnRun, Fail> {
     let functions = program(alloc, text.as_bytes())?;
     let args = value_of(alloc, args)?;
-    plain_txn(alloc, &functions, name, &args, view)
+    let called = Txt::new(alloc, name)?;
+    plain_txn(alloc, &functions, &called, &args, view)
 }
 
 // `NAME=JSON` or `NAME!WORD`.
@@ -243,7 +244,7 @@ fn end_text(alloc: Global, end: &FlowEnd) -> Result<String, Fail> {
 fn counted_flow<L: Ledger>(
     alloc: Global,
     functions: &Checked,
-    name: &str,
+    called: &Txt,
     args: &Val,
     answers: &[Answer],
     blank: Blank,
@@ -253,7 +254,7 @@ fn counted_flow<L: Ledger>(
     requires some { 0 < blank.parts }
 {
     let mut steps = Steps::<L>::new(blank);
-    let end = run_flow(alloc, functions, name, args, answers, &mut steps)?;
+    let end = run_flow(alloc, functions, called.as_str(), args, answers, &mut steps)?;
     Ok(end)
 }
 
@@ -261,11 +262,11 @@ fn counted_flow<L: Ledger>(
 fn plain_flow(
     alloc: Global,
     functions: &Checked,
-    name: &str,
+    called: &Txt,
     args: &Val,
     answers: &[Answer],
 ) -> Result<FlowEnd, Fail> {
-    counted_flow::<Brand>(alloc, functions, name, args, answers, Blank::new(1))
+    counted_flow::<Brand>(alloc, functions, called, args, answers, Blank::new(1))
 }
 
 /// How a workflow of a text ends on these answers.
@@ -273,6 +274,7 @@ fn ended(alloc: Global, text: &str, name: &str, args: &str, steps: &str) -> Resu
     let functions = program(alloc, text.as_bytes())?;
     let args = value_of(alloc, args)?;
     let answers = answers(alloc, steps)?;
-    let end = plain_flow(alloc, &functions, name, &args, &answers)?;
+    let called = Txt::new(alloc, name)?;
+    let end = plain_flow(alloc, &functions, &called, &args, &answers)?;
     end_text(alloc, &end)
 }
