@@ -64,7 +64,8 @@ pub fn transact<M: View, L: Ledger>(
     view: &M,
     steps: &mut Steps<L>,
 ) -> Result<Option<TxnRun>, Memory>
-    ensures { IfOk result (λ run. Transacts program.now (M.versions view.now) name.now args.now run steps.old steps.new) }
+    ensures run { IfOk result (λ run. Transacts program.now (M.versions view.now) name.now args.now
+        run steps.old steps.new) }
 {
     let items = program.program().items.as_slice();
     match args {
