@@ -1,6 +1,6 @@
 //! A case, played from an empty store or from what another left.
 
-ghost use Rattle.std.specs.Prelude.{ℕ, ◌×◌, IfOk, OnOk};
+ghost use Rattle.std.specs.Prelude.{ℕ, IfOk, OnOk};
 ghost use Rattle.r3_desk.specs.Crash.{NothingPending};
 ghost use Rattle.r3_model.specs.Machine.{State};
 ghost use Rattle.r3_exec.specs.Runs.{Runs};
