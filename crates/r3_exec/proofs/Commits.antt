@@ -11,9 +11,9 @@ use Rattle.r3_rows.specs.declared.rows.Cell.{Cell}
 use Rattle.r3_entry.specs.declared.entry.Entry.{Entry}
 use Rattle.r3_entry.specs.Bytes.{entry, size}
 use Rattle.r3_store.specs.Holds.{Stands, SameStore}
-use Rattle.r3_store.specs.Past.{StandFor}
-use Rattle.r3_store.specs.Answers.{text_of}
-use Rattle.r3_store.specs.Load.{payloads}
+use Rattle.r3_formed.specs.Past.{StandFor}
+use Rattle.r3_formed.specs.Answers.{text_of}
+use Rattle.r3_formed.specs.Load.{payloads}
 use Rattle.r3_store.specs.declared.store.Store.{Store}
 use Rattle.r3_model.specs.Event.{Entries, Bytes}
 use Rattle.r3_model.specs.Machine.{Begun, full_of}

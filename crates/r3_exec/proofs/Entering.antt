@@ -12,7 +12,7 @@ use Rattle.r3_entry.specs.Formed.{Follows}
 use Rattle.r3_entry.specs.History.{writes_key}
 use Rattle.r3_entry.specs.Limits.{IsEntry}
 use Rattle.r3_snap.specs.Conflicts.{earlier}
-use Rattle.r3_store.specs.Past.{first_conflict, first_from, first_write}
+use Rattle.r3_formed.specs.Past.{first_conflict, first_from, first_write}
 use Rattle.r3_model.specs.Event.{Event, Reply}
 use Rattle.r3_model.specs.Event as reply
 use Rattle.r3_model.specs.Given.{Given}

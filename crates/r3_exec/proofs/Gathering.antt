@@ -10,7 +10,7 @@ use Rattle.r3_rows.specs.declared.rows.Key.TheVariants as keys
 use Rattle.r3_entry.specs.declared.entry.Entry.{Entry}
 use Rattle.r3_entry.specs.Formed.{IsFormed}
 use Rattle.r3_entry.specs.History.{Map, Write, map_at}
-use Rattle.r3_store.specs.Answers.{flow_ids, flow_in}
+use Rattle.r3_formed.specs.Answers.{flow_ids, flow_in}
 use Rattle.r3_store.specs.Holds as store
 use Rattle.sys_queue.specs.Lines.{Line, Place, bytes_cmp, declared_of, new_lines}
 use Rattle.sys_queue.specs.Rows.{Rows}

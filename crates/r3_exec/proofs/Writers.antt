@@ -18,7 +18,7 @@ use Rattle.r3_rows.specs.KeyOrder.{key_cmp-total}
 use Rattle.r3_entry.specs.declared.entry.Entry.{Entry}
 use Rattle.r3_entry.specs.History.{writes_key}
 use Rattle.r3_snap.specs.Conflicts.{keys_of}
-use Rattle.r3_store.specs.Past.{first_conflict, first_writer}
+use Rattle.r3_formed.specs.Past.{first_conflict, first_writer}
 use Rattle.fn_tree.specs.declared.flow.Request.{Request}
 use Rattle.fn_tree.specs.Writes.{Write as Put}
 use Rattle.r3_model.specs.Acts.{Writes, put_write, step_row, step_write, txn_entry}

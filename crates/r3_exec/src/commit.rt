@@ -10,7 +10,7 @@ ghost use Rattle.r3_entry.specs.Image.{IsHistoryOf};
 ghost use Rattle.r3_entry.specs.Limits.{IsEntry};
 ghost use Rattle.r3_rows.specs.declared.rows.FlowRow.{FlowRow as Row};
 ghost use Rattle.r3_snap.specs.Conflicts.{keys_of};
-ghost use Rattle.r3_store.specs.Past.{first_conflict};
+ghost use Rattle.r3_formed.specs.Past.{first_conflict};
 ghost use Rattle.r3_store.specs.Holds.{Stands as StoreStands, IsReadable, MayFollow, Holds};
 ghost use Rattle.sys_queue.specs.Lines.{declared_of};
 ghost use Rattle.sys_queue.specs.Index as queue;

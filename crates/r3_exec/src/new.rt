@@ -3,7 +3,7 @@
 ghost use Rattle.std.specs.Prelude.{◌≡◌, ◌≢◌, [], List, Some, None, length, IfOk, OnOk};
 ghost use Rattle.r3_entry.specs.declared.entry.Entry.{Entry};
 ghost use Rattle.r3_rows.specs.declared.rows.FlowRow.{FlowRow as Row};
-ghost use Rattle.r3_store.specs.Answers.{flow_ids};
+ghost use Rattle.r3_formed.specs.Answers.{flow_ids};
 ghost use Rattle.r3_store.specs.Holds.{Stands as StoreStands};
 ghost use Rattle.sys_queue.specs.Lines.{declared_of, new_lines};
 ghost use Rattle.sys_queue.specs.Index as queue;

@@ -6,7 +6,7 @@ use Rattle.r3_entry.specs.declared.entry.Entry.{Entry}
 use Rattle.r3_entry.specs.Image.{IsHistoryOf}
 use Rattle.r3_desk.specs.Asked as desk
 use Rattle.r3_desk.specs.Crash.{Reach}
-use Rattle.r3_store.specs.Answers.{program_texts}
+use Rattle.r3_formed.specs.Answers.{program_texts}
 use Rattle.r3_store.specs.Opened.{IsCaused, IsStopped}
 use Rattle.r3_store.specs.declared.fault.OpenFault.{OpenFault}
 use Rattle.r3_store.specs.declared.fault.OpenFault.TheVariants as faults

@@ -1,6 +1,6 @@
 -- No reply has a float.
-use Rattle.std.proofs.Common.{◌≡◌, ℕ, ℤ, pos, negsuc, Option, Some, None, false, refl, ap, ◌∙◌}
-use Rattle.serde_json.specs.Data.{Data, string}
+use Rattle.std.proofs.Common.{◌≡◌, pos, negsuc, Option, Some, None, false, refl}
+use Rattle.serde_json.specs.Data.{string}
 use Rattle.serde_json.specs.Written.{has_float, items_have_float}
 use Rattle.r3_value.specs.Value.{Value, null, boolean, integer, text, list, Items, no_items, item}
 use Rattle.r3_value.specs.View.{value_of}
@@ -13,7 +13,6 @@ use Rattle.sys_flow.specs.declared.command.Refusal.TheVariants as refusals
 use Rattle.r3_model.specs.Language.{Text}
 use Rattle.r3_model.specs.Event as model
 use Rattle.r3_model.specs.Replies.{reply_data, refusal_data, row_data, outcome_data, or_null}
-use Rattle.r3_reply.specs.Summary.{summary_data}
 
 mutual
   of_value : (v : Value) → has_float (data_of v) ≡ false
@@ -75,10 +74,3 @@ of_reply model.Absent = refl
 of_reply model.NotRead = refl
 of_reply model.NotForm = refl
 of_reply model.Nil = refl
-
-of_numbers : (entries success : ℕ) (sum : ℤ) → has_float (summary_data entries success sum) ≡ false
-of_numbers entries success (pos n) = refl
-of_numbers entries success (negsuc n) = refl
-
-pub of_summary : (d : Data) (entries success : ℕ) (sum : ℤ) → d ≡ summary_data entries success sum → has_float d ≡ false
-of_summary d entries success sum is = ap (λ (x : Data). has_float x) is ∙ of_numbers entries success sum

@@ -86,5 +86,9 @@ fn a_summary_has_three_numbers(rt: HostRuntime) -> Result<(), Fail> {
     let text = summary_text(rt.alloc(), 30002, 10000, -5)?;
     let want = b"{\"entries\":30002,\"success\":10000,\"sum\":-5}\n".as_slice();
     assert_eq!(rt; text.as_slice(), want);
+    // 64 accounts of 2^63 - 1 each
+    let text = summary_text(rt.alloc(), 2, 0, 590_295_810_358_705_651_648)?;
+    let want = b"{\"entries\":2,\"success\":0,\"sum\":590295810358705651648}\n".as_slice();
+    assert_eq!(rt; text.as_slice(), want);
     Ok(())
 }

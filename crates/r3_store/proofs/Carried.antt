@@ -1,14 +1,13 @@
 -- What a store holds goes on: on a desk whose disk is the same, and where its memory alone changes.
-use Rattle.std.proofs.Common.{◌≡◌, ℕ, List, [], ◌++◌, length, take, drop, Option, Some, refl, sym, ap, subst, ◌∙◌, arith}
+use Rattle.std.proofs.Common.{◌≡◌, ℕ, List, take, drop, Option, sym, ap, subst, ◌∙◌, arith}
 use Rattle.std.specs.Prelude.{map, Contains}
-use Rattle.r3_desk.specs.Crash.{NothingPending}
 use Rattle.r3_gate.specs.Gate.{Tracks}
 use Rattle.r3_gate.specs.declared.gate.Gate.{Gate}
 use Rattle.r3_entry.specs.declared.entry.Entry.{Entry}
 use Rattle.r3_entry.specs.Formed.{Follows}
-use Rattle.r3_store.specs.Past.{StandFor}
-use Rattle.r3_store.specs.Answers.{text_of, program_texts}
-use Rattle.r3_store.specs.Load.{payloads}
+use Rattle.r3_formed.specs.Past.{StandFor}
+use Rattle.r3_formed.specs.Answers.{text_of}
+use Rattle.r3_formed.specs.Load.{payloads}
 use Rattle.r3_store.specs.Holds.{Stands, Holds, SameStore, MayFollow}
 use Rattle.r3_store.specs.declared.store.Store.{Store}
 

@@ -8,7 +8,7 @@ use Rattle.r3_chain.specs.Versions.{Versions, versions_of, first_past}
 use Rattle.r3_snap.specs.Conflicts.{earlier, conflict_past}
 use Rattle.r3_store.specs.declared.fault.CommitFault.{CommitFault}
 use Rattle.r3_store.specs.declared.fault.CommitFault.TheVariants as faults
-use Rattle.r3_store.specs.Past.{StandFor, first_write, first_conflict}
+use Rattle.r3_formed.specs.Past.{StandFor, first_write, first_conflict}
 
 -- the first conflict that the chains tell is that of the history
 pub same_conflict : (es : Versions Key Cell) (h : List Entry) (oldest snap : ℕ) (keys : List Key) → StandFor es h oldest → oldest ≤ snap

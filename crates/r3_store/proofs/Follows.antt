@@ -1,5 +1,5 @@
 -- An entry that was committed without a conflict follows the history.
-use Rattle.std.proofs.Common.{◌≡◌, ℕ, ◌+◌, ◌<◌, ◌≤◌, ◌^◌, List, [], ◌∷◌, ◌++◌, length, map, take, drop, fold, Option, Some, None, refl, sym, ap, subst, ◌∙◌, arith, cond, true, false, Bool, length-append, nat_lt, zero, suc, min, slice_get}
+use Rattle.std.proofs.Common.{◌≡◌, ℕ, ◌+◌, ◌<◌, ◌≤◌, List, [], ◌∷◌, ◌++◌, length, map, take, drop, fold, Option, Some, None, refl, sym, ap, subst, ◌∙◌, arith, cond, true, false, Bool, length-append, nat_lt, zero, suc, slice_get}
 use Rattle.std.specs.Prelude.{◌&&◌, ◌↔◌, Contains}
 use Rattle.std.specs.List.{AllByRecursion}
 use Rattle.std.proofs.lemmas.List.{take-append-le, map-append}
@@ -12,16 +12,15 @@ use Rattle.r3_entry.specs.declared.entry.Entry.{Entry}
 use Rattle.r3_entry.specs.History.{version_at, writes_key}
 use Rattle.r3_entry.specs.Bytes.{entry, size}
 use Rattle.r3_entry.specs.Formed.{Follows, IsFormed}
-use Rattle.r3_entry.specs.Limits.{IsEntry}
+use Rattle.r3_chain.specs.Versions.{Versions}
 use Rattle.r3_snap.specs.Conflicts.{earlier, keys_of}
-use Rattle.r3_store.specs.Past.{StandFor, all_installed, first_from, first_write, first_conflict}
-use Rattle.r3_store.specs.Load.{payloads}
-use Rattle.r3_store.specs.Holds.{Stands, Holds, MayFollow}
-use Rattle.r3_store.specs.Answers.{text_of, text_at, program_texts}
+use Rattle.r3_formed.specs.Past.{StandFor, all_installed, first_from, first_write, first_conflict}
+use Rattle.r3_formed.specs.Load.{payloads}
+use Rattle.r3_store.specs.Holds.{Holds, MayFollow}
+use Rattle.r3_formed.specs.Answers.{text_of, text_at, program_texts}
 use Rattle.r3_store.specs.declared.store.Store.{Store}
-use Rattle.r3_store.proofs.Grows.{grown}
 use Rattle.r3_store.proofs.Publishes.{next_number, payloads_join}
-use Rattle.r3_store.proofs.LoadLaws.{texts_push, size_is}
+use Rattle.r3_store.proofs.Images.{size_is}
 
 no_write : (j snap : ℕ) (q : Key) (h : List Entry) → first_from j snap q h ≡ None → (i : ℕ) (e : Entry) → snap < j + i → slice_get h i ≡ Some e → writes_key e q ≡ false
 no_write j snap q [] none i e lt at = absurd cc
@@ -91,10 +90,17 @@ pub numbers : {D : Type 0} (told_size : D → Option ℕ) (told_image : D → Op
     → Holds told_size told_image may_leave d s h k → (s.gate.count ≡ length h) × (s.gate.end ≡ size h)
 numbers told_size told_image may_leave d s h k holds = (holds.stands.count, holds.tracks.end ∙ ap size_of (payloads_join h k) ∙ size_is h)
 
+-- versions and texts with those of the next entry
+abbrev pub Grown : Type 0
+Grown = (es : Versions Key Cell) (h : List Entry) (oldest : ℕ) (e : Entry) → StandFor es h oldest → StandFor (all_installed (length h + 1) e.writes es) (h ++ e ∷ []) oldest
+
+abbrev pub Told : Type 0
+Told = (h : List Entry) (e : Entry) → program_texts (h ++ e ∷ []) ≡ program_texts h ++ text_at (length h + 1) e.act
+
 module _ {D : Type 0} (told_size : D → Option ℕ) (told_image : D → Option (List ℕ)) (may_leave : D → List ℕ → Type 0) where
-  pub held_on : (d f : D) (old new : Store) (h : List Entry) (k n : ℕ) (e : Entry) → Holds told_size told_image may_leave d old h k
+  pub held_on : Grown → Told → (d f : D) (old new : Store) (h : List Entry) (k n : ℕ) (e : Entry) → Holds told_size told_image may_leave d old h k
       → Logs told_size told_image may_leave f old new h k e n → IsFormed (h ++ e ∷ []) → Holds told_size told_image may_leave f new (h ++ e ∷ []) k
-  held_on d f old new h k n e holds logs formed =
+  held_on grown told d f old new h k n e holds logs formed =
       let long : length (h ++ e ∷ []) ≡ length h + 1 = length-append h (e ∷ []) in
       let front : take k h ≡ take k (h ++ e ∷ []) = sym (take-append-le k h (e ∷ []) holds.within) in
       let back : payloads (drop k h) ++ entry e ∷ [] ≡ payloads (drop k (h ++ e ∷ [])) = sym (map-append _ (drop k h) (e ∷ [])) ∙ ap payloads (sym (drop_front k h e holds.within)) in
@@ -104,10 +110,10 @@ module _ {D : Type 0} (told_size : D → Option ℕ) (told_image : D → Option 
           formed = formed;
           count = next_number told_size told_image may_leave d f old new.gate h k (entry e) holds logs.tracks ∙ sym long;
           versions = subst (λ es. StandFor es (h ++ e ∷ []) new.oldest) (sym versions)
-              (subst (StandFor (all_installed (length h + 1) e.writes old.chains.versions) (h ++ e ∷ [])) (sym logs.oldest) (grown old.chains.versions h e old.oldest holds.stands.versions));
+              (subst (StandFor (all_installed (length h + 1) e.writes old.chains.versions) (h ++ e ∷ [])) (sym logs.oldest) (grown old.chains.versions h old.oldest e holds.stands.versions));
           oldest = omega (arith, holds.stands.oldest, logs.oldest);
           pins = λ s there. let was : _ = holds.stands.pins s (subst (λ (l : List ℕ). Contains l s) logs.pins there) in (omega (arith, was.0, logs.oldest), omega (arith, was.1));
-          texts = logs.texts ∙ ap (λ ts. ts ++ text_at n e.act) holds.stands.texts ∙ ap (λ (j : ℕ). program_texts h ++ text_at j e.act) (let z : n ≡ 1 + length h = omega (arith, logs.number) in z) ∙ sym (texts_push 1 h e);
+          texts = logs.texts ∙ ap (λ ts. ts ++ text_at n e.act) holds.stands.texts ∙ ap (λ (j : ℕ). program_texts h ++ text_at j e.act) logs.number ∙ sym (told h e);
         };
         within = omega (arith, holds.within);
         settled_formed = subst IsFormed front holds.settled_formed;

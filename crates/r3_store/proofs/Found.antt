@@ -1,20 +1,20 @@
 -- What a store's chains answer of its history.
-use Rattle.std.proofs.Common.{◌≡◌, ◌⊎◌, ℕ, ◌+◌, ◌≤◌, List, [], ◌∷◌, ◌++◌, length, Option, Some, None, refl, sym, ap, subst, ◌∙◌, ⊎_elim, arith}
+use Rattle.std.proofs.Common.{◌≡◌, ◌⊎◌, ℕ, ◌+◌, ◌≤◌, List, [], ◌∷◌, ◌++◌, length, sym, ap, subst, ◌∙◌, ⊎_elim, arith}
 use Rattle.std.specs.Prelude.{Contains}
 use Rattle.std.specs.FinMap.{find}
 use Rattle.std.proofs.lemmas.List.Elements.{Contains-push_cases}
+use Rattle.r3_rows.specs.declared.rows.Cell.{Cell}
 use Rattle.r3_rows.specs.declared.rows.Key.{Key}
 use Rattle.r3_rows.specs.Keys.{key_cmp}
 use Rattle.r3_rows.specs.contracts.rows.KeyOrd.TheImpl as derived
 use Rattle.r3_entry.specs.declared.entry.Entry.{Entry}
 use Rattle.r3_entry.specs.History.{map_at}
 use Rattle.r3_gate.specs.declared.gate.Gate.{Gate}
-use Rattle.r3_chain.specs.Versions.{version_at, trimmed_all, as_of}
-use Rattle.r3_store.specs.Past.{StandFor}
+use Rattle.r3_chain.specs.Versions.{Versions, version_at, trimmed_all, as_of}
+use Rattle.r3_formed.specs.LookLaws.{found_in}
+use Rattle.r3_formed.specs.Past.{StandFor}
 use Rattle.r3_store.specs.Holds.{Stands, IsReadable}
 use Rattle.r3_store.specs.declared.store.Store.{Store}
-use Rattle.r3_store.proofs.Grows.{trimmed_stands}
-use Rattle.r3_store.proofs.LookLemmas.{found_in}
 
 pub not_trimmed : (s : Store) (h : List Entry) (k : ℕ) → Stands s h → IsReadable s k → s.oldest ≤ k
 not_trimmed s h k stands readable = ⊎_elim (λ held. (stands.pins k held).0) (λ whole. omega (arith, stands.oldest, stands.count, whole)) readable
@@ -45,13 +45,17 @@ pushed old h snap items stands readable is s there =
     (⊎_elim (stands.pins snap) (λ whole. (omega (arith, whole, stands.oldest, stands.count), omega (arith, whole, stands.count))) readable))
     (Contains-push_cases old.pins snap s (subst (λ (l : List ℕ). Contains l s) is there))
 
+-- versions that are trimmed stand from a later index on
+abbrev pub Trimmed : Type 0
+Trimmed = (es : Versions Key Cell) (h : List Entry) (oldest later : ℕ) → oldest ≤ later → StandFor es h oldest → StandFor (trimmed_all later es) h later
+
 -- trimmed to an index that no pinned snapshot is below
-pub vacuumed : (old new : Store) (h : List Entry) (later : ℕ) → new.gate ≡ old.gate → new.chains.versions ≡ trimmed_all later old.chains.versions → new.oldest ≡ later → new.texts ≡ old.texts
+pub vacuumed : Trimmed → (old new : Store) (h : List Entry) (later : ℕ) → new.gate ≡ old.gate → new.chains.versions ≡ trimmed_all later old.chains.versions → new.oldest ≡ later → new.texts ≡ old.texts
     → new.pins ≡ old.pins → old.oldest ≤ later → later ≤ length h → ((s : ℕ) → Contains old.pins s → later ≤ s) → Stands old h → Stands new h
-vacuumed old new h later gate versions oldest texts pins from within below stands = record {
+vacuumed law old new h later gate versions oldest texts pins from within below stands = record {
   formed = stands.formed;
   count = ap (λ (g : Gate). g.count) gate ∙ stands.count;
-  versions = subst (λ es. StandFor es h new.oldest) (sym versions) (subst (StandFor (trimmed_all later old.chains.versions) h) (sym oldest) (trimmed_stands old.chains.versions h old.oldest later from stands.versions));
+  versions = subst (λ es. StandFor es h new.oldest) (sym versions) (subst (StandFor (trimmed_all later old.chains.versions) h) (sym oldest) (law old.chains.versions h old.oldest later from stands.versions));
   oldest = omega (arith, oldest, within);
   pins = λ s there. let held : Contains old.pins s = subst (λ (l : List ℕ). Contains l s) pins there in (omega (arith, below s held, oldest), (stands.pins s held).1);
   texts = rw texts stands.texts;

@@ -1,12 +1,16 @@
 -- The log of a history's payloads is an image of that history.
-use Rattle.std.proofs.Common.{◌≡◌, ◌≢◌, ◌⊎◌, ℕ, ◌+◌, ◌<◌, ◌≤◌, List, [], ◌∷◌, ◌++◌, length, map, take, drop, refl, sym, ap, subst, ◌∙◌, inl, inr, ⊎_elim, arith, append_assoc, length-append, suc, zero}
+use Rattle.std.proofs.Common.{◌≡◌, ◌≢◌, ◌⊎◌, ℕ, ◌+◌, List, [], ◌∷◌, ◌++◌, length, refl, ap, ◌∙◌, inl, inr, ⊎_elim, arith, length-append}
 use Rattle.r3_gate.specs.Log as log
-use Rattle.r3_gate.specs.Log.{IsLog, Fronts, size_of}
+use Rattle.r3_gate.specs.Log.{IsLog, size_of}
 use Rattle.r3_entry.specs.declared.entry.Entry.{Entry}
-use Rattle.r3_entry.specs.Bytes.{entry, records, record_of, magic}
+use Rattle.r3_entry.specs.Bytes.{entry, records, record_of, magic, size}
 use Rattle.r3_entry.specs.Formed.{IsFormed}
 use Rattle.r3_entry.specs.Image.{IsHistoryOf}
-use Rattle.r3_store.specs.Load.{payloads}
+use Rattle.r3_formed.specs.Load.{payloads}
+
+pub size_is : (h : List Entry) → size_of (payloads h) ≡ size h
+size_is [] = refl
+size_is (e ∷ es) = omega (arith, size_is es)
 
 pub same_records : (h : List Entry) → log.records (payloads h) ≡ records h
 unfolding log.frame

@@ -1,15 +1,7 @@
-pub mod Grows
-pub mod Writes
-pub mod LookLemmas
-pub mod Loops
-pub mod Ready
-pub mod RuleLaws
-pub mod LoadLaws
 pub mod Images
 pub mod OpenLaws
 pub mod Found
 pub mod Conflicts
 pub mod Publishes
 pub mod Follows
-pub mod FirstWriter
 pub mod Carried

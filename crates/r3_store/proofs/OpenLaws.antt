@@ -1,5 +1,5 @@
 -- A log is read as one history, or has one first entry that isn't formed.
-use Rattle.std.proofs.Common.{◌≡◌, ◌≢◌, ◌⊎◌, ℕ, ◌+◌, ◌<◌, ◌≤◌, ◌^◌, List, [], ◌∷◌, ◌++◌, length, map, Option, Some, None, refl, sym, ap, subst, ◌∙◌, inl, inr, ⊎_elim, arith, append-nil, append_assoc, length-append, Bool, true, false, nat_lt, Ok, Err, Result, take, drop}
+use Rattle.std.proofs.Common.{◌≡◌, ◌⊎◌, ℕ, ◌+◌, ◌<◌, ◌≤◌, ◌^◌, List, [], ◌∷◌, ◌++◌, length, map, Option, refl, sym, ap, subst, ◌∙◌, inl, inr, ⊎_elim, arith, append-nil, append_assoc, length-append, true, false, nat_lt, Ok, Err, Result, take, drop}
 use Rattle.std.specs.Prelude.{All, Contains}
 use Rattle.std.specs.Option.{ForSome}
 use Rattle.std.specs.List.{AllByRecursion}
@@ -13,21 +13,47 @@ use Rattle.r3_gate.specs.Fault as gate
 use Rattle.r3_gate.specs.declared.fault.GateFault.{GateFault}
 use Rattle.r3_gate.specs.declared.fault.GateFault.TheVariants as gates
 use Rattle.r3_entry.specs.declared.entry.Entry.{Entry}
-use Rattle.r3_entry.specs.Bytes.{entry, magic}
+use Rattle.r3_entry.specs.declared.entry.Act.{Act}
+use Rattle.r3_entry.specs.declared.entry.Act.TheVariants as acts
+use Rattle.r3_entry.specs.Bytes.{entry, act, magic}
 use Rattle.r3_entry.specs.Limits.{IsEntry}
 use Rattle.r3_entry.specs.Formed.{IsFormed}
 use Rattle.r3_entry.specs.Image.{IsHistoryOf}
-use Rattle.r3_store.specs.Load.{payloads, AreUnformed}
-use Rattle.r3_store.specs.Past.{StandFor}
-use Rattle.r3_store.specs.Answers.{text_of}
-use Rattle.r3_store.specs.Opened.{IsUnformed, IsStopped, IsCaused, open_fault, Reads, Opens}
-use Rattle.r3_store.specs.declared.load.Loaded.{Loaded}
+use Rattle.r3_formed.specs.Load.{payloads, AreUnformed}
+use Rattle.r3_formed.specs.Past.{StandFor}
+use Rattle.r3_formed.specs.Answers.{text_of}
+use Rattle.r3_store.specs.Opened.{IsUnformed, IsStopped, IsCaused, open_fault, formed_fault, Reads, Opens}
+use Rattle.r3_formed.specs.declared.loading.Loaded.{Loaded}
 use Rattle.r3_store.specs.declared.store.Store.{Store}
-use Rattle.r3_store.specs.declared.fault.OpenFault.{OpenFault}
 use Rattle.r3_store.specs.declared.fault.OpenFault.TheVariants as faults
-use Rattle.r3_store.proofs.Images.{same_records}
-use Rattle.r3_store.proofs.LoadLaws.{size_is, none_formed}
-use Rattle.r3_store.proofs.Ready.{entry_long}
+use Rattle.r3_formed.specs.declared.fault.LoadFault.{LoadFault}
+use Rattle.r3_formed.specs.declared.fault.LoadFault.TheVariants as loads
+use Rattle.r3_store.proofs.Images.{same_records, size_is}
+
+act_long : (a : Act) → 1 ≤ length (act a)
+act_long (acts.Program text) = omega arith
+act_long acts.Load = omega arith
+act_long (acts.Start id) = omega arith
+act_long (acts.Enqueue id) = omega arith
+act_long (acts.Dequeue id) = omega arith
+act_long (acts.Txn id n args) = omega arith
+act_long (acts.Outside id n args) = omega arith
+act_long (acts.Child id n child) = omega arith
+act_long (acts.Await id n on) = omega arith
+act_long (acts.Finish id) = omega arith
+act_long (acts.Cancel id) = omega arith
+act_long (acts.Resume id) = omega arith
+act_long (acts.Fork id from below) = omega arith
+act_long (acts.Recover id) = omega arith
+
+longer : (a b : List ℕ) → 1 ≤ length a → 1 ≤ length (a ++ b)
+longer a b h = omega (arith, length-append a b)
+
+pub entry_long : (e : Entry) → 1 ≤ length (entry e)
+entry_long e = longer _ _ (longer _ _ (longer _ _ (act_long e.act)))
+
+none_formed : IsFormed []
+none_formed = record { entries = tt; few = omega arith; small = omega arith; payloads = tt; limits = tt }
 
 all_payloads : (h : List Entry) → AllByRecursion (λ e. length (entry e) ≤ 2 ^ 23) h → All IsPayload (payloads h)
 all_payloads [] a = λ k d lt. absurd (omega (arith, lt))
@@ -150,32 +176,17 @@ never_stopped x s = ⊎_elim (λ e. absurd cc) (λ e. absurd cc) s
 pub never_fault : {T : Type 0} (x : T) (f : GateFault) → (Ok x ≡ Err f) ⊎ gate.IsStopped (Ok x) → ⊥
 never_fault x f s = ⊎_elim (λ e. absurd cc) (never_stopped x) s
 
--- the fault of a load
-pub record IsLoadFault (f : OpenFault) : Type 0 where
-  pub not_store : f ≡ faults.NotStore → ⊥
-  pub not_damaged : (k : ℕ) → f ≡ faults.Damaged k → ⊥
-  pub not_disk : f ≡ faults.Disk → ⊥
+pub formed_caused : (o : Option (List ℕ)) (f : LoadFault) → ((k : ℕ) → f ≡ loads.NotFormed k → ForSome o (λ i. IsUnformed i k)) → IsCaused o (formed_fault f)
+formed_caused o (loads.NotFormed k) unformed = unformed k refl
+formed_caused o loads.Memory unformed = tt
 
-pub load_caused : (o : Option (List ℕ)) (f : OpenFault) → IsLoadFault f → ((k : ℕ) → f ≡ faults.NotFormed k → ForSome o (λ i. IsUnformed i k)) → IsCaused o f
-load_caused o faults.NotStore l unformed = absurd (l.not_store refl)
-load_caused o (faults.Damaged k) l unformed = absurd (l.not_damaged k refl)
-load_caused o (faults.NotFormed k) l unformed = unformed k refl
-load_caused o faults.Disk l unformed = tt
-load_caused o faults.Memory l unformed = tt
+pub formed_stop : (f : LoadFault) → ((k : ℕ) → f ≡ loads.NotFormed k → ⊥) → IsStopped (formed_fault f)
+formed_stop (loads.NotFormed k) unformed = absurd (unformed k refl)
+formed_stop loads.Memory unformed = inr refl
 
-pub load_stop : (f : OpenFault) → IsLoadFault f → ((k : ℕ) → f ≡ faults.NotFormed k → ⊥) → IsStopped f
-load_stop faults.NotStore l unformed = absurd (l.not_store refl)
-load_stop (faults.Damaged k) l unformed = absurd (l.not_damaged k refl)
-load_stop (faults.NotFormed k) l unformed = absurd (unformed k refl)
-load_stop faults.Disk l unformed = inl refl
-load_stop faults.Memory l unformed = inr refl
-
-pub load_is : (f : OpenFault) (k : ℕ) → IsLoadFault f → ((j : ℕ) → f ≡ faults.NotFormed j → j ≡ k) → (f ≡ faults.NotFormed k) ⊎ IsStopped f
-load_is faults.NotStore k l same = absurd (l.not_store refl)
-load_is (faults.Damaged j) k l same = absurd (l.not_damaged j refl)
-load_is (faults.NotFormed j) k l same = inl (ap faults.NotFormed (same j refl))
-load_is faults.Disk k l same = inr (inl refl)
-load_is faults.Memory k l same = inr (inr refl)
+pub formed_is : (f : LoadFault) (k : ℕ) → ((j : ℕ) → f ≡ loads.NotFormed j → j ≡ k) → (formed_fault f ≡ faults.NotFormed k) ⊎ IsStopped (formed_fault f)
+formed_is (loads.NotFormed j) k same = inl (ap faults.NotFormed (same j refl))
+formed_is loads.Memory k same = inr (inr refl)
 
 -- ---- the store
 

@@ -1,19 +1,19 @@
 -- What a store's log tells of what is staged, and what a crash leaves of it.
-use Rattle.std.proofs.Common.{◌≡◌, ◌≢◌, ◌⊎◌, ℕ, ◌+◌, ◌<◌, ◌≤◌, List, [], ◌∷◌, ◌++◌, length, map, take, drop, refl, sym, ap, subst, ◌∙◌, inl, inr, ⊎_elim, arith, append-nil, length-append, Option, Bool, true, false, Some, nat_lt}
+use Rattle.std.proofs.Common.{◌≡◌, ◌⊎◌, ℕ, ◌+◌, ◌<◌, ◌≤◌, List, [], ◌∷◌, ◌++◌, length, take, drop, refl, sym, ap, subst, ◌∙◌, inl, inr, ⊎_elim, arith, append-nil, length-append, Option, true, false, nat_lt}
 use Rattle.std.proofs.lemmas.List.{map-append, take-append-drop, length-map, get_or_append_left}
 use Rattle.std.proofs.Math.Seq.{drop-length, take-length}
 use Rattle.std.proofs.lemmas.Bool.Decides.{nat_tests}
-use Rattle.r3_desk.specs.Crash.{Reach, LeavesOnly, NothingPending}
+use Rattle.r3_desk.specs.Crash.{Reach}
 use Rattle.r3_desk.specs.Disk.{told_len}
 use Rattle.r3_desk.specs.Moments.{LeavesImage, started}
-use Rattle.r3_gate.specs.Log.{IsLog, IsPayload, Fits, Fronts, size_of}
+use Rattle.r3_gate.specs.Log.{IsLog, IsPayload, Fits, size_of}
 use Rattle.r3_gate.specs.Gate.{Tracks, Left}
 use Rattle.r3_gate.specs.declared.gate.Gate.{Gate}
 use Rattle.r3_entry.specs.declared.entry.Entry.{Entry}
 use Rattle.r3_entry.specs.Formed.{IsFormed}
 use Rattle.r3_entry.specs.Image.{IsHistoryOf}
-use Rattle.r3_store.specs.Load.{payloads}
-use Rattle.r3_store.specs.Holds.{Holds, Stands}
+use Rattle.r3_formed.specs.Load.{payloads}
+use Rattle.r3_store.specs.Holds.{Holds}
 use Rattle.r3_store.specs.declared.store.Store.{Store}
 use Rattle.r3_store.proofs.Images.{history_of_log}
 

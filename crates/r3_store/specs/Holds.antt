@@ -1,13 +1,12 @@
 -- A store on a desk's disk, and the history that it holds.
-use Rattle.std.specs.Prelude.{◌≡◌, ◌⊎◌, ℕ, ◌+◌, ◌<◌, ◌≤◌, ◌^◌, Bool, List, [], ◌∷◌, ◌++◌, length, map, take, drop, All, Contains, IsTrue, count_by, sum_by, Option, Some}
+use Rattle.std.specs.Prelude.{◌≡◌, ◌⊎◌, ℕ, ◌+◌, ◌≤◌, List, [], ◌∷◌, ◌++◌, length, map, take, drop, Contains, count_by, sum_by, Option}
 use Rattle.std.specs.List.{AllByRecursion}
 use Rattle.r3_gate.specs.Gate.{Tracks}
 use Rattle.r3_entry.specs.declared.entry.Entry.{Entry}
-use Rattle.r3_entry.specs.Bytes.{entry, size}
 use Rattle.r3_entry.specs.Formed.{IsFormed, IsProgramFirst, IsReadAt, IsOfKind, IsNewStep, IsFlowRow, is_user, read_count}
-use Rattle.r3_store.specs.Past.{StandFor}
-use Rattle.r3_store.specs.Answers.{program_texts, text_of}
-use Rattle.r3_store.specs.Load.{payloads}
+use Rattle.r3_formed.specs.Past.{StandFor}
+use Rattle.r3_formed.specs.Answers.{program_texts, text_of}
+use Rattle.r3_formed.specs.Load.{payloads}
 use Rattle.r3_store.specs.declared.store.Store.{Store}
 
 -- what is in memory stands for the history h

@@ -1,5 +1,5 @@
 -- Why a file is no store, and a store that was just opened.
-use Rattle.std.specs.Prelude.{◌≡◌, ◌⊎◌, ℕ, ◌+◌, List, [], ◌++◌, ◌∷◌, length, Bool, Option, Some, ⊤}
+use Rattle.std.specs.Prelude.{◌≡◌, ◌⊎◌, ℕ, List, [], length, Bool, Option, Some, ⊤}
 use Rattle.std.specs.Option.{ForSome}
 use Rattle.r3_gate.specs.Log.{IsLog, IsForeign, IsDamaged}
 use Rattle.r3_gate.specs.Gate.{Tracks}
@@ -7,11 +7,13 @@ use Rattle.r3_gate.specs.declared.gate.Gate.{Gate}
 use Rattle.r3_entry.specs.declared.entry.Entry.{Entry}
 use Rattle.r3_entry.specs.Image.{IsHistoryOf}
 use Rattle.r3_store.specs.Holds.{Holds}
-use Rattle.r3_store.specs.Load.{Loads, AreUnformed, payloads}
-use Rattle.r3_store.specs.declared.load.Loaded.{Loaded}
+use Rattle.r3_formed.specs.Load.{Loads, AreUnformed, payloads}
+use Rattle.r3_formed.specs.declared.loading.Loaded.{Loaded}
 use Rattle.r3_store.specs.declared.store.Store.{Store}
 use Rattle.r3_store.specs.declared.fault.OpenFault.{OpenFault}
 use Rattle.r3_store.specs.declared.fault.OpenFault.TheVariants as faults
+use Rattle.r3_formed.specs.declared.fault.LoadFault.{LoadFault}
+use Rattle.r3_formed.specs.declared.fault.LoadFault.TheVariants as loads
 use Rattle.r3_gate.specs.declared.fault.GateFault.{GateFault}
 use Rattle.r3_gate.specs.declared.fault.GateFault.TheVariants as gates
 
@@ -52,3 +54,8 @@ open_fault (gates.Damaged k) = faults.Damaged k
 open_fault (gates.Full limit) = faults.Memory
 open_fault gates.Disk = faults.Disk
 open_fault gates.Memory = faults.Memory
+
+-- the fault of reading the entries, as the store tells it
+abbrev pub formed_fault : LoadFault → OpenFault
+formed_fault (loads.NotFormed k) = faults.NotFormed k
+formed_fault loads.Memory = faults.Memory

@@ -4,10 +4,7 @@ ghost use Rattle.std.specs.Prelude.{◌≡◌, ℕ, List, Some, take};
 ghost use Rattle.r3_entry.specs.Formed.{Follows};
 ghost use Rattle.r3_entry.specs.declared.entry.Entry.{Entry};
 ghost use Rattle.r3_entry.specs.Image.{IsHistoryOf};
-ghost use Rattle.r3_rows.specs.declared.rows.Key.{Key};
 ghost use Rattle.r3_store.specs.Holds.{Holds, MayFollow, SameStore, Stands};
-ghost use Rattle.r3_store.specs.Past.{first_conflict, first_write, first_writer};
-ghost use Rattle.r3_store.specs.PastLaws.{IsFirstWrite};
 ghost use Rattle.r3_store.specs.declared.store.Store.{Store};
 
 use r3_desk::Desk;
@@ -24,18 +21,6 @@ pub fn reads_as_settled<D: Desk>()
 {
     reads_as_published::<D>();
 }
-
-/// The first write of a key past a snapshot is that of the least entry past it that writes the key.
-pub fn first_write_is()
-    ensures { (h : List Entry) (snap : ℕ) (key : Key) (n : ℕ) →
-        first_write h snap key ≡ Some n → IsFirstWrite 1 snap key h n }
-{}
-
-/// The first conflict is the number of the first entry past the snapshot that writes one of the keys.
-pub fn first_conflict_is()
-    ensures { (h : List Entry) (snap : ℕ) (keys : List Key) →
-        first_conflict h snap keys ≡ first_writer h snap keys }
-{}
 
 /// What is held goes on where the desk's disk stays as it is, as it does while bytes are said and calls are
 /// asked.

@@ -7,19 +7,12 @@
 #![tactic(auto)]
 
 mod fault;
-mod install;
 mod laws;
-mod load;
-mod looks;
 mod open;
-mod rules;
 mod store;
 #[cfg(test)]
 mod tests;
 
 pub use fault::{CommitFault, OpenFault};
-pub use laws::{
-    first_conflict_is, first_write_is, holds_beside_the_disk, holds_in_memory, may_follow,
-    reads_as_settled,
-};
+pub use laws::{holds_beside_the_disk, holds_in_memory, may_follow, reads_as_settled};
 pub use store::Store;

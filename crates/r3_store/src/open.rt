@@ -1,6 +1,6 @@
 //! Opening a store.
 
-ghost use Rattle.std.specs.Prelude.{◌≡◌, ◌⊎◌, ◌<◌, [], length, List, ℕ, Err, Some, IfOk, IfErr, IsErrOf, IsErrAnd, MatchResult};
+ghost use Rattle.std.specs.Prelude.{◌≡◌, ◌⊎◌, ◌<◌, List, ℕ, Err, Some, IfOk, IfErr, IsErrOf, IsErrAnd, MatchResult};
 ghost use Rattle.std.specs.Option.{ForSome};
 ghost use Rattle.r3_desk.specs.Crash.{NothingPending};
 ghost use Rattle.r3_desk.specs.Causes.{Rose};
@@ -8,13 +8,12 @@ ghost use Rattle.r3_desk.specs.Moments.{LeavesImage};
 ghost use Rattle.r3_entry.specs.declared.entry.Entry.{Entry};
 ghost use Rattle.r3_entry.specs.Image.{IsHistoryOf};
 ghost use Rattle.r3_gate.specs.Log.{IsForeign, IsDamaged};
-ghost use Rattle.r3_store.specs.Load.{Loads};
-ghost use Rattle.r3_store.specs.Opened.{Reads, IsUnformed, IsStopped, IsCaused, open_fault};
+ghost use Rattle.r3_store.specs.Opened.{Reads, IsUnformed, IsStopped, IsCaused, open_fault, formed_fault};
 
 use crate::fault::OpenFault;
-use crate::load::{Loaded, load};
 use r3_desk::Desk;
 use r3_entry::{beginnings_are_formed, one_spelling};
+use r3_formed::{LoadFault, Loaded, load};
 use r3_gate::{Gate, GateFault};
 use std::alloc::Global;
 
@@ -27,6 +26,16 @@ fn fault_of(fault: GateFault) -> OpenFault
         GateFault::Disk => OpenFault::Disk,
         GateFault::Full { limit: _ } => OpenFault::Memory,
         GateFault::Memory => OpenFault::Memory,
+    }
+}
+
+fn fault_of_load(fault: LoadFault) -> OpenFault
+    ensures same { result ≡ formed_fault fault }
+    ensures disk { result ≡ OpenFault.Disk → ⊥ }
+{
+    match fault {
+        LoadFault::NotFormed { entry } => OpenFault::NotFormed { entry },
+        LoadFault::Memory => OpenFault::Memory,
     }
 }
 
@@ -70,6 +79,6 @@ pub fn read_history<D: Desk>(
     };
     match load(alloc, &payloads.list, keep) {
         Ok(loaded) => Ok((gate, loaded)),
-        Err(fault) => Err(fault),
+        Err(fault) => Err(fault_of_load(fault)),
     }
 }

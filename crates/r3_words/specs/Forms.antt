@@ -1,5 +1,5 @@
 -- Which command the words of a command line are.
-use Rattle.std.specs.Prelude.{ℕ, ◌^◌, ◌-◌, Bool, true, false, List, [], ◌∷◌, Option, Some, None, ◌&&◌, ◌==◌, not, if◌then◌else◌, bytes_eq, codes}
+use Rattle.std.specs.Prelude.{ℕ, ◌≤◌, ◌<◌, ◌^◌, ◌-◌, ⊤, Bool, true, false, List, [], ◌∷◌, Option, Some, None, ◌&&◌, ◌==◌, not, if◌then◌else◌, bytes_eq, codes}
 use Rattle.std.specs.List.{list_all}
 use Rattle.std.specs.Option.{option_map}
 use Rattle.r3_words.specs.Numbers.{Text, number_within}
@@ -26,6 +26,12 @@ is_word (byte ∷ bytes) = not (byte == 45)
 abbrev pub is_path : Text → Bool
 is_path [] = false
 is_path (byte ∷ bytes) = true
+
+-- the numbers that a command line may name
+abbrev pub HasLimits : Form → Type 0
+HasLimits (recover functions turns) = (1 ≤ turns) × (turns ≤ 1000000)
+HasLimits (gen number count) = (number < 2 ^ 48) × (1 ≤ count) × (count ≤ 100000)
+HasLimits form = ⊤
 
 -- both numbers, where both words are numbers
 abbrev pub gen_of : Option ℕ → Option ℕ → Option Form

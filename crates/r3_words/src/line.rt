@@ -1,9 +1,9 @@
 //! A whole command line.
 
-ghost use Rattle.std.specs.Prelude.{◌≡◌, IfOk, map, string_bytes};
+ghost use Rattle.std.specs.Prelude.{◌≡◌, IfOk, IfSome, map, string_bytes};
 ghost use Rattle.std.specs.List.{list_all};
 ghost use Rattle.std.specs.Option.{option_map};
-ghost use Rattle.r3_words.specs.Forms.{is_word, said, command_of};
+ghost use Rattle.r3_words.specs.Forms.{HasLimits, asked, is_word, said, command_of};
 
 use crate::command::CommandLine;
 use crate::positions::command_of;
@@ -41,7 +41,8 @@ fn are_words(words: &[String]) -> bool
 /// No word is empty, and none but the first begins with a hyphen. A number is written in decimal
 /// digits without a leading zero.
 pub fn read<'a>(alloc: Global, words: &'a [String]) -> Result<Option<CommandLine<'a>>, Memory>
-    ensures { IfOk result (λ line. option_map said line ≡ command_of (map string_bytes words.now)) }
+    ensures command { IfOk result (λ line. option_map said line ≡ command_of (map string_bytes words.now)) }
+    ensures limits { IfOk result (λ line. IfSome line (λ l. HasLimits (asked l.command))) }
 {
     let Some((store, rest)) = words.split_first() else {
         return Ok(None);

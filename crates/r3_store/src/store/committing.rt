@@ -13,16 +13,16 @@ ghost use Rattle.r3_chain.specs.Versions.{key_set};
 ghost use Rattle.r3_snap.specs.Conflicts.{keys_of, conflict_past};
 ghost use Rattle.r3_gate.specs.Gate.{Tracks};
 ghost use Rattle.r3_gate.specs.Log.{IsLog, IsPayload};
-ghost use Rattle.r3_store.specs.Past.{AreReady, all_installed, first_conflict};
-ghost use Rattle.r3_store.specs.Answers.{text_at, text_of};
+ghost use Rattle.r3_formed.specs.Past.{AreReady, all_installed, first_conflict};
+ghost use Rattle.r3_formed.specs.Answers.{text_at, text_of};
 ghost use Rattle.r3_store.specs.Holds.{Stands, Holds, IsReadable, SameStore, MayFollow};
 
 use crate::Store;
 use crate::fault::CommitFault;
-use crate::install::{install_all, make_room};
-use crate::load::{let_go, put_text};
+use crate::store::let_go;
 use r3_desk::Desk;
 use r3_entry::{Entry, encode, first_committer_wins, formed_goes_on};
+use r3_formed::{history_goes_on, install_all, make_room, put_text};
 use r3_gate::{GateFault, Limit, reads_as_published};
 use r3_snap::{WriteSet, conflict};
 use r3_value::Memory;
@@ -220,6 +220,7 @@ impl Store {
         };
         match self.append(alloc, desk, &payload) {
             Ok(number) => {
+                history_goes_on();
                 self.install(number, entry);
                 first_committer_wins();
                 formed_goes_on();

@@ -7,6 +7,7 @@ ghost use Rattle.r3_store.specs.Holds.{Stands, IsReadable};
 
 use crate::Store;
 use r3_entry::Entry;
+use r3_formed::trimmed_stand;
 use r3_value::Memory;
 
 impl Store {
@@ -56,5 +57,6 @@ impl Store {
         let oldest = self.oldest_read();
         self.chains.trim(oldest);
         self.oldest = oldest;
+        trimmed_stand();
     }
 }

@@ -14,10 +14,10 @@ ghost use Rattle.r3_store.specs.Opened.{Opens, IsUnformed, IsStopped, IsCaused};
 
 use crate::Store;
 use crate::fault::OpenFault;
-use crate::load::Loaded;
 use crate::open::read_history;
 use r3_desk::Desk;
 use r3_entry::Entry;
+use r3_formed::Loaded;
 use r3_snap::Pins;
 use std::alloc::Global;
 

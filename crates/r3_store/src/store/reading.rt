@@ -4,12 +4,12 @@ ghost use Rattle.std.specs.Prelude.{◌<◌, None, ◌≡◌, List, length, map,
 ghost use Rattle.std.specs.Option.{option_map};
 ghost use Rattle.r3_entry.specs.declared.entry.Entry.{Entry};
 ghost use Rattle.r3_entry.specs.History.{cell_at, version_at, range_at};
-ghost use Rattle.r3_store.specs.Answers.{flow_ids, program_texts, text_of};
+ghost use Rattle.r3_formed.specs.Answers.{flow_ids, program_texts, text_of};
 ghost use Rattle.r3_store.specs.Holds.{Stands, IsReadable};
 
 use crate::Store;
-use crate::looks::{flows_as_of, texts_between};
 use r3_entry::Entry;
+use r3_formed::{flows_as_of, texts_between};
 use r3_rows::{Cell, Key};
 use r3_value::{Memory, Txt};
 use std::alloc::Global;

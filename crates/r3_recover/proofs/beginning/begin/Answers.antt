@@ -11,7 +11,7 @@ use Rattle.std.proofs.lemmas.Str.{is_utf8-from_IsUtf8}
 use Rattle.r3_gate.specs.declared.fault.Limit.{Limit}
 use Rattle.r3_store.specs.declared.fault.CommitFault.{CommitFault}
 use Rattle.r3_store.specs.declared.fault.CommitFault.TheVariants.{Full}
-use Rattle.r3_store.specs.Past.{first_conflict}
+use Rattle.r3_formed.specs.Past.{first_conflict}
 use Rattle.r3_snap.specs.Conflicts.{keys_of}
 use Rattle.r3_recover.proofs.beginning.begin.Goals as goal
 

@@ -2,7 +2,7 @@ use Rattle.std.proofs.Common.{◌≡◌, ◌≢◌, ◌⊎◌, ⊎_elim, inl, in
 use Rattle.std.specs.Prelude.{String}
 use Rattle.std.specs.declared.alloc.Global.{Global}
 use Rattle.std.proofs.lemmas.Slice.Eq.{bytes_eq-Decides}
-use Rattle.r3_store.specs.Answers.{program_texts, text_of}
+use Rattle.r3_formed.specs.Answers.{program_texts, text_of}
 use Rattle.r3_recover.specs.Opened.{HasProgram}
 use Rattle.r3_recover.proofs.opening.has_program.Goals as goal
 

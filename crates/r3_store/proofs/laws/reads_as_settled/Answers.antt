@@ -1,5 +1,5 @@
-use Rattle.std.proofs.Common.{◌≡◌, take, drop}
-use Rattle.r3_store.specs.Load.{payloads}
+use Rattle.std.proofs.Common.{take, drop}
+use Rattle.r3_formed.specs.Load.{payloads}
 use Rattle.r3_store.proofs.Images.{history_of_log}
 use Rattle.r3_store.proofs.laws.reads_as_settled.Goals as goal
 

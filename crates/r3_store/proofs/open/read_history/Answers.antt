@@ -1,15 +1,14 @@
-use Rattle.std.proofs.Common.{◌≡◌, ◌⊎◌, List, ℕ, Err, map, ap, ◌∙◌, sym, subst, inl, inr, ⊎_elim, []}
+use Rattle.std.proofs.Common.{◌≡◌, ◌⊎◌, List, ℕ, Err, ap, ◌∙◌, sym, subst, inr, ⊎_elim, []}
 use Rattle.r3_gate.specs.Log.{IsLog}
 use Rattle.r3_gate.specs.Gate.{Tracks}
 use Rattle.r3_gate.specs.Payloads.{contents}
 use Rattle.r3_gate.specs.declared.fault.GateFault.TheVariants as gates
-use Rattle.r3_entry.specs.declared.entry.Entry.{Entry}
-use Rattle.r3_store.specs.Load.{payloads, bytes_of, AreUnformed}
+use Rattle.r3_formed.specs.Load.{payloads, bytes_of, AreUnformed}
 use Rattle.r3_store.specs.Opened.{IsCaused, IsStopped, Reads}
 use Rattle.r3_store.specs.declared.fault.OpenFault.{OpenFault}
 use Rattle.r3_store.specs.declared.fault.OpenFault.TheVariants as faults
 use Rattle.r3_store.proofs.Images.{history_of_log}
-use Rattle.r3_store.proofs.OpenLaws.{log_of_history, formed_of_history, gate_caused, stop_of, fault_or_stop, never_stopped, never_fault, IsLoadFault, load_caused, load_stop, load_is, not_both, one_unformed, same_payloads}
+use Rattle.r3_store.proofs.OpenLaws.{log_of_history, formed_of_history, gate_caused, stop_of, fault_or_stop, never_stopped, never_fault, formed_caused, formed_stop, formed_is, not_both, one_unformed, same_payloads}
 use Rattle.r3_store.proofs.open.read_history.Goals as goal
 
 pub returns-in-Err-clause-causes : goal.returns-in-Err-clause-causes
@@ -72,28 +71,20 @@ returns-in-Ok-load-clause-on_unformed g c = λ k x told u.
 
 pub returns-clause-causes : goal.returns-clause-causes
 returns-clause-causes g c =
-    let other : IsLoadFault c.in-Err-load.fault = record {
-      not_store = λ e. c.in-Err-load.ensures.others.0 (ap Err e);
-      not_damaged = λ k e. c.in-Err-load.ensures.others.1 k (ap Err e);
-      not_disk = λ e. c.in-Err-load.ensures.others.2 (ap Err e);
-    } in
-    load_caused (g.D.Desk.image c.args.desk.now) c.in-Err-load.fault other
+    subst (IsCaused (g.D.Desk.image c.args.desk.now)) (sym c.fault_of_load.ensures.same)
+    (formed_caused (g.D.Desk.image c.args.desk.now) c.in-Err-load.fault
     (λ k e x told. record {
       all = contents c.in-Ok.opened.1.list;
       log = c.in-Ok.ensures.log x told;
       unformed = subst (λ (b : List (List ℕ)). AreUnformed b k) (ap bytes_of c.deref.ensures.value) (c.in-Err-load.ensures.not_formed k (ap Err e));
-    })
+    }))
 
 pub returns-clause-on_history : goal.returns-clause-on_history
 returns-clause-on_history g c = λ h x told is.
-    let other : IsLoadFault c.in-Err-load.fault = record {
-      not_store = λ e. c.in-Err-load.ensures.others.0 (ap Err e);
-      not_damaged = λ k e. c.in-Err-load.ensures.others.1 k (ap Err e);
-      not_disk = λ e. c.in-Err-load.ensures.others.2 (ap Err e);
-    } in
     let read : contents c.in-Ok.opened.1.list ≡ payloads h = ⊎_elim (λ s. s) (λ s. absurd (never_stopped _ s)) (c.in-Ok.ensures.on_log (payloads h) x told (log_of_history x h is)) in
-    load_stop c.in-Err-load.fault other
-    (λ k e. not_both c.one_spelling.ensures c.beginnings_are_formed.ensures (bytes_of c.deref.result.now) k h (c.in-Err-load.ensures.not_formed k (ap Err e)) (formed_of_history x h is) (ap bytes_of c.deref.ensures.value ∙ read))
+    subst IsStopped (sym c.fault_of_load.ensures.same)
+    (formed_stop c.in-Err-load.fault
+    (λ k e. not_both c.one_spelling.ensures c.beginnings_are_formed.ensures (bytes_of c.deref.result.now) k h (c.in-Err-load.ensures.not_formed k (ap Err e)) (formed_of_history x h is) (ap bytes_of c.deref.ensures.value ∙ read)))
 
 pub returns-clause-on_foreign : goal.returns-clause-on_foreign
 returns-clause-on_foreign g c = λ x told is. absurd (never_fault _ gates.NotStore (c.in-Ok.ensures.on_foreign x told is))
@@ -103,12 +94,8 @@ returns-clause-on_damaged g c = λ k x told is. absurd (never_fault _ (gates.Dam
 
 pub returns-clause-on_unformed : goal.returns-clause-on_unformed
 returns-clause-on_unformed g c = λ k x told u.
-    let other : IsLoadFault c.in-Err-load.fault = record {
-      not_store = λ e. c.in-Err-load.ensures.others.0 (ap Err e);
-      not_damaged = λ k e. c.in-Err-load.ensures.others.1 k (ap Err e);
-      not_disk = λ e. c.in-Err-load.ensures.others.2 (ap Err e);
-    } in
     let read : contents c.in-Ok.opened.1.list ≡ u.all = ⊎_elim (λ s. s) (λ s. absurd (never_stopped _ s)) (c.in-Ok.ensures.on_log u.all x told u.log) in
-    load_is c.in-Err-load.fault k other
+    subst (λ (f : OpenFault). (f ≡ faults.NotFormed k) ⊎ IsStopped f) (sym c.fault_of_load.ensures.same)
+    (formed_is c.in-Err-load.fault k
     (λ j e. one_unformed c.one_spelling.ensures c.beginnings_are_formed.ensures (bytes_of c.deref.result.now) j k (c.in-Err-load.ensures.not_formed j (ap Err e))
-    (subst (λ (b : List (List ℕ)). AreUnformed b k) (sym (ap bytes_of c.deref.ensures.value ∙ read)) u.unformed))
+    (subst (λ (b : List (List ℕ)). AreUnformed b k) (sym (ap bytes_of c.deref.ensures.value ∙ read)) u.unformed)))

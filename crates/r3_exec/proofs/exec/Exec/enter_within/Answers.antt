@@ -1,7 +1,7 @@
 use Rattle.std.proofs.Common.{◌≡◌, ℕ, ◌<◌, List, [], ◌∷◌, ◌++◌, length, Option, Some, None, Ok, sym, ap, ◌∙◌, subst, arith}
 use Rattle.fn_tree.specs.declared.program.Item.{Item}
 use Rattle.r3_snap.specs.Conflicts.{keys_of}
-use Rattle.r3_store.specs.Past.{first_conflict}
+use Rattle.r3_formed.specs.Past.{first_conflict}
 use Rattle.r3_model.specs.Functions.{language_of}
 use Rattle.r3_model.specs.Language.{Text}
 use Rattle.r3_model.specs.Machine.{Begun, Out}

@@ -1,21 +1,19 @@
-use Rattle.std.proofs.Common.{◌≡◌, ◌⊎◌, ◌+◌, ◌<◌, ◌++◌, [], ◌∷◌, List, ℕ, length, take, drop, map, Ok, Err, Some, None, refl, sym, ap, subst, ◌∙◌, arith, inl, inr}
-use Rattle.std.specs.Prelude.{vec_len, vec_capacity}
+use Rattle.std.proofs.Common.{◌≡◌, ◌+◌, ◌++◌, [], ◌∷◌, List, ℕ, length, take, drop, map, Err, None, sym, ap, subst, ◌∙◌, arith}
 use Rattle.r3_entry.specs.declared.entry.Entry.{Entry}
 use Rattle.r3_rows.specs.Keys.{key_cmp}
 use Rattle.r3_chain.specs.Versions.{key_set}
 use Rattle.r3_entry.specs.Bytes.{entry, size}
 use Rattle.r3_gate.specs.Gate.{Tracks}
 use Rattle.r3_gate.specs.declared.gate.Gate.{Gate}
-use Rattle.r3_snap.specs.Conflicts.{keys_of, conflict_past}
-use Rattle.r3_store.specs.Past.{StandFor, all_installed, first_conflict}
-use Rattle.r3_store.specs.Load.{payloads}
-use Rattle.r3_store.specs.Holds.{Stands, Holds}
-use Rattle.r3_store.specs.Answers.{text_of, text_at}
+use Rattle.r3_snap.specs.Conflicts.{keys_of}
+use Rattle.r3_formed.specs.Past.{AreReady, StandFor, all_installed, first_conflict}
+use Rattle.r3_formed.specs.Load.{payloads}
+use Rattle.r3_store.specs.Holds.{Holds}
+use Rattle.r3_formed.specs.Answers.{text_of, text_at}
 use Rattle.r3_store.specs.declared.store.Store.{Store}
-use Rattle.r3_store.specs.declared.fault.CommitFault.{CommitFault}
 use Rattle.r3_store.specs.declared.fault.CommitFault.TheVariants as faults
 use Rattle.r3_store.proofs.Images.{history_of_log}
-use Rattle.r3_store.proofs.Ready.{ready, entry_long}
+use Rattle.r3_store.proofs.OpenLaws.{entry_long}
 use Rattle.r3_store.proofs.Conflicts.{same_conflict}
 use Rattle.r3_store.proofs.Found.{not_trimmed}
 use Rattle.r3_store.proofs.Publishes.{next_number, unmoved, keeps_settled}
@@ -49,8 +47,9 @@ install-requires-clause-ready g c =
     let number : c.in-Ok-append.number ≡ length h + 1 =
     c.in-Ok-append.ensures.number ∙ next_number _ _ _ _ _ c.args.self.now c.append.new.self.gate h k _ holds (c.in-Ok-append.ensures.tracks _ _ tracks) in
     let room : c.append.new.self.chains.room ≡ key_set key_cmp (keys_of c.args.entry.writes) = ap (λ (s : Store). s.chains.room) c.append.ensures.chains ∙ c.in-Ok.ensures.room in
-    ready c.append.new.self.chains.versions h c.args.self.now.oldest c.in-Ok-append.number c.append.new.self.chains.room c.args.entry.writes
-    (subst (λ es. StandFor es h c.args.self.now.oldest) (sym versions) holds.stands.versions) number room c.requires.limits.rising
+    subst (λ (n : ℕ). AreReady n c.args.entry.writes c.append.new.self.chains.room c.append.new.self.chains.versions) (sym number)
+    (c.history_goes_on.ensures.ready c.append.new.self.chains.versions h c.args.self.now.oldest c.args.entry c.append.new.self.chains.room
+    (subst (λ es. StandFor es h c.args.self.now.oldest) (sym versions) holds.stands.versions) c.requires.limits.rising room)
 
 pub install-requires-clause-text_room : goal.install-requires-clause-text_room
 install-requires-clause-text_room g c = rw c.append.ensures.chains c.in-Ok.ensures.text_room
@@ -80,7 +79,7 @@ returns-in-Ok-append-clause-ok g c = λ h k holds may.
     let end : c.prepare.new.self.gate.end ≡ size h = ap (λ (x : Gate). x.end) c.prepare.ensures.same.gate ∙ n.1 in
     let long : length c.deref.result.now ≡ length (entry c.args.entry) = ap length (c.deref.ensures.value ∙ c.in-Ok.ensures.bytes) in (
       logs.number,
-      held_on _ _ _ c.args.desk.now c.append.new.desk c.args.self.now _ h k c.in-Ok-append.number c.args.entry holds logs
+      held_on _ _ _ c.history_goes_on.ensures.versions c.history_goes_on.ensures.texts c.args.desk.now c.append.new.desk c.args.self.now _ h k c.in-Ok-append.number c.args.entry holds logs
           (c.formed_goes_on.ensures h c.args.entry holds.stands.formed (follows c.first_committer_wins.ensures h c.args.entry may none) c.requires.limits c.requires.payload
           (omega (arith, count, c.in-Ok-append.ensures.room.0)) (omega (arith, end, long, c.in-Ok-append.ensures.room.1))),
     )

@@ -1,7 +1,7 @@
-use Rattle.std.proofs.Common.{◌≡◌, ap, ◌∙◌, sym, inr, refl}
+use Rattle.std.proofs.Common.{ap, ◌∙◌, inr}
 use Rattle.std.specs.List.{filter_map}
 use Rattle.r3_entry.specs.History.{Map, map_at}
-use Rattle.r3_store.specs.Answers.{flow_in}
+use Rattle.r3_formed.specs.Answers.{flow_in}
 use Rattle.r3_store.proofs.Found.{map_is}
 use Rattle.r3_store.proofs.store.Store.flows.Goals as goal
 

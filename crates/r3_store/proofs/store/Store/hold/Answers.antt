@@ -1,5 +1,4 @@
-use Rattle.std.proofs.Common.{◌≡◌, refl, subst, List, ℕ}
-use Rattle.std.specs.Prelude.{Contains}
+use Rattle.std.proofs.Common.{refl}
 use Rattle.r3_store.proofs.Found.{stands_with, pushed}
 use Rattle.r3_store.proofs.store.Store.hold.Goals as goal
 

@@ -1,4 +1,4 @@
-use Rattle.std.proofs.Common.{◌≡◌, refl, arith}
+use Rattle.std.proofs.Common.{refl, arith}
 use Rattle.r3_store.proofs.Found.{none_held}
 use Rattle.r3_store.proofs.store.Store.oldest_read.Goals as goal
 

@@ -1,4 +1,4 @@
-use Rattle.std.proofs.Common.{◌≡◌, refl}
+use Rattle.std.proofs.Common.{refl}
 use Rattle.r3_store.proofs.OpenLaws.{opened}
 use Rattle.r3_store.proofs.store.Store.open.Goals as goal
 

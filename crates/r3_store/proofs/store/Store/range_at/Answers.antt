@@ -1,6 +1,6 @@
-use Rattle.std.proofs.Common.{◌≡◌, ap, ◌∙◌}
+use Rattle.std.proofs.Common.{ap, ◌∙◌}
 use Rattle.r3_entry.specs.History.{Map}
-use Rattle.r3_store.specs.Rules.{range_in}
+use Rattle.r3_formed.specs.Rules.{range_in}
 use Rattle.r3_store.proofs.Found.{map_is}
 use Rattle.r3_store.proofs.store.Store.range_at.Goals as goal
 

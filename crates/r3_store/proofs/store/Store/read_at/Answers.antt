@@ -1,9 +1,9 @@
-use Rattle.std.proofs.Common.{◌≡◌, ap, ◌∙◌, Option, ℕ}
+use Rattle.std.proofs.Common.{ap, ◌∙◌, Option, ℕ}
 use Rattle.std.specs.Option.{option_map}
 use Rattle.std.specs.Prelude.{option_and_then}
 use Rattle.r3_rows.specs.declared.rows.Cell.{Cell}
 use Rattle.r3_chain.specs.Versions.{Version}
-use Rattle.r3_store.proofs.LookLemmas.{cell_of}
+use Rattle.r3_formed.specs.LookLaws.{cell_of}
 use Rattle.r3_store.proofs.Found.{found_at}
 use Rattle.r3_store.proofs.store.Store.read_at.Goals as goal
 

@@ -1,4 +1,4 @@
-use Rattle.std.proofs.Common.{◌≡◌, refl}
+use Rattle.std.proofs.Common.{refl}
 use Rattle.r3_store.proofs.Found.{stands_with}
 use Rattle.r3_store.proofs.store.Store.release.Goals as goal
 

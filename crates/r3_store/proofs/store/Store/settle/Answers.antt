@@ -1,5 +1,5 @@
-use Rattle.std.proofs.Common.{◌≡◌, refl, sym, ap, subst, ◌∙◌, true, false, not, nat_lt, inl, take, drop}
-use Rattle.r3_store.specs.Load.{payloads}
+use Rattle.std.proofs.Common.{sym, ◌∙◌, true, false, inl, take, drop}
+use Rattle.r3_formed.specs.Load.{payloads}
 use Rattle.r3_store.proofs.Images.{history_of_log}
 use Rattle.r3_store.proofs.Publishes.{all_settled, asks_publish, published, settles_to, stays, settled_image}
 use Rattle.r3_store.proofs.store.Store.settle.Goals as goal

@@ -1,4 +1,4 @@
-use Rattle.std.proofs.Common.{◌≡◌, ap, ◌∙◌, Option, ℕ}
+use Rattle.std.proofs.Common.{ap, ◌∙◌, Option}
 use Rattle.std.specs.Option.{option_map_or}
 use Rattle.r3_rows.specs.declared.rows.Cell.{Cell}
 use Rattle.r3_chain.specs.Versions.{Version}

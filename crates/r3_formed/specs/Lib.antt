@@ -1,0 +1,6 @@
+pub mod Past
+pub mod PastLaws
+pub mod Answers
+pub mod Rules
+pub mod LookLaws
+pub mod Load

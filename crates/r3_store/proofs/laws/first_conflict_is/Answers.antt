@@ -1,5 +1,0 @@
-use Rattle.r3_store.proofs.FirstWriter.{conflict_is_first}
-use Rattle.r3_store.proofs.laws.first_conflict_is.Goals as goal
-
-pub returns : goal.returns
-returns c = λ h snap keys. conflict_is_first h snap keys
