@@ -98,7 +98,7 @@ pub fn drain_words(alloc: Global, end: DrainEnd) -> Result<String, Memory> {
     }
 }
 
-/// A value that is no list.
+// A value that is no list.
 fn plain_words(alloc: Global, value: &Val) -> Result<String, Memory> {
     match value {
         Val::Null => words_of(alloc, "null"),
