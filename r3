@@ -1,5 +1,5 @@
 #!/bin/sh
-# Runs the program with the words given, as `./r3 STORE run FUNCTIONS`.
+# Runs the program with the words given, as `./r3 STORE run FUNCTIONS < SCRIPT`.
 # Where it isn't built, or is older than its sources, it is proved and built first; that is told on standard error.
 here=$(cd "$(dirname "$0")" && pwd)
 crate=$here/crates/r3_cli
@@ -15,7 +15,7 @@ if is_old; then
         echo "r3: the command 'rt' of the toolchain is needed to prove and build the program" >&2
         exit 70
     fi
-    echo "r3: proving and building the program; this takes some minutes the first time" >&2
+    echo "r3: proving and building the program; from nothing this takes an hour or more" >&2
     # Run without words, it answers that they are no command.
     (cd "$crate" && rt run -- </dev/null 2>&1) | grep -v "^{\"fault\":\"usage\"}$" >&2
     if is_old; then

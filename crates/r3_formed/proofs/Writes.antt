@@ -1,5 +1,5 @@
 -- The writes of an entry, one after another.
-use Rattle.std.proofs.Common.{◌≡◌, ℕ, ◌+◌, ◌<◌, List, [], ◌∷◌, ◌++◌, reverse, Option, refl, sym, ap, subst, ◌∙◌, cond, true, false, Bool}
+use Rattle.std.proofs.Common.{◌≡◌, ℕ, ◌<◌, List, [], ◌∷◌, ◌++◌, reverse, Option, refl, sym, ap, subst, ◌∙◌, cond, true, false, Bool}
 use Rattle.std.proofs.lemmas.List.{reverse-append}
 use Rattle.std.specs.Prelude.{T, ◌||◌, ◌&&◌}
 use Rattle.std.specs.List.{AllByRecursion}

@@ -1,5 +1,5 @@
 -- What a store's chains answer of its history.
-use Rattle.std.proofs.Common.{◌≡◌, ◌⊎◌, ℕ, ◌+◌, ◌≤◌, List, [], ◌∷◌, ◌++◌, length, sym, ap, subst, ◌∙◌, ⊎_elim, arith}
+use Rattle.std.proofs.Common.{◌≡◌, ℕ, ◌≤◌, List, [], ◌∷◌, ◌++◌, length, sym, ap, subst, ◌∙◌, ⊎_elim, arith}
 use Rattle.std.specs.Prelude.{Contains}
 use Rattle.std.specs.FinMap.{find}
 use Rattle.std.proofs.lemmas.List.Elements.{Contains-push_cases}

@@ -1,5 +1,5 @@
 -- The log of a history's payloads is an image of that history.
-use Rattle.std.proofs.Common.{◌≡◌, ◌≢◌, ◌⊎◌, ℕ, ◌+◌, List, [], ◌∷◌, ◌++◌, length, refl, ap, ◌∙◌, inl, inr, ⊎_elim, arith, length-append}
+use Rattle.std.proofs.Common.{◌≡◌, ◌≢◌, ℕ, List, [], ◌∷◌, ◌++◌, length, refl, ap, ◌∙◌, inl, inr, ⊎_elim, arith, length-append}
 use Rattle.r3_gate.specs.Log as log
 use Rattle.r3_gate.specs.Log.{IsLog, size_of}
 use Rattle.r3_entry.specs.declared.entry.Entry.{Entry}

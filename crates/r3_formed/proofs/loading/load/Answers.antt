@@ -1,4 +1,4 @@
-use Rattle.std.proofs.Common.{◌≡◌, ◌+◌, ◌++◌, ◌∷◌, [], Err, ap, arith, length-append}
+use Rattle.std.proofs.Common.{◌≡◌, ◌++◌, ◌∷◌, [], Err, ap, arith, length-append}
 use Rattle.r3_formed.specs.Load.{bytes_of}
 use Rattle.r3_formed.specs.declared.fault.LoadFault.TheVariants as faults
 use Rattle.r3_formed.proofs.LoadLaws.{Next, next_in, done_in}

@@ -1,4 +1,4 @@
-use Rattle.std.proofs.Common.{ℕ, ◌+◌, ◌≤◌, ◌^◌, List, [], ◌∷◌, length, arith}
+use Rattle.std.proofs.Common.{ℕ, ◌*◌, ◌+◌, ◌≤◌, ◌^◌, List, [], ◌∷◌, length, arith}
 use Rattle.std.specs.Prelude.{All, Vec}
 use Rattle.std.specs.List.{AllByRecursion}
 use Rattle.std.specs.declared.alloc.Global.{Global}
@@ -23,5 +23,5 @@ fits_few ps few short = record {
   bytes = omega (arith, few, size_short ps short);
 }
 
-pub returns : goal.returns
-returns c = λ yes. fits_few c.args.payloads.now (search rules) (c.are_short.ensures (search rules))
+pub returns-then-payloads-le4 : goal.returns-then-payloads-le4
+returns-then-payloads-le4 c = λ yes. fits_few c.args.payloads.now c.if-payloads-le4.true (c.are_short.ensures yes)

@@ -1,4 +1,4 @@
-use Rattle.std.proofs.Common.{sym, ◌∙◌, true, false, inl, take, drop}
+use Rattle.std.proofs.Common.{sym, ◌∙◌, inl, take, drop}
 use Rattle.r3_formed.specs.Load.{payloads}
 use Rattle.r3_store.proofs.Images.{history_of_log}
 use Rattle.r3_store.proofs.Publishes.{all_settled, asks_publish, published, settles_to, stays, settled_image}
