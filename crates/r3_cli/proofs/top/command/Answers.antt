@@ -1,4 +1,4 @@
-use Rattle.std.proofs.Common.{rules, ◌≡◌, ℕ, List, [], Option, Some, inl, sym, subst}
+use Rattle.std.proofs.Common.{rules, ◌≡◌, ℕ, [], Some, inl, sym, subst}
 use Rattle.r3_model.specs.Language.{Text}
 use Rattle.r3_cli.specs.Going.{RecoverGoes, Before, Unbegun}
 use Rattle.r3_cli.specs.Ends.{end_of}

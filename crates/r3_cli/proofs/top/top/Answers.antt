@@ -1,10 +1,10 @@
-use Rattle.std.proofs.Common.{◌≡◌, ◌⊎◌, inl, inr, ⊎_elim, ℕ, None, refl, sym, ap, ◌∙◌, subst}
+use Rattle.std.proofs.Common.{inr, ⊎_elim, ℕ, None, refl, sym, ap, subst}
 use Rattle.std.specs.Prelude.{Result, Err}
 use Rattle.r3_desk.specs.Causes.{Rose}
 use Rattle.r3_cli.specs.declared.halt.Halt.{Halt}
 use Rattle.r3_cli.specs.declared.halt.Halt.TheVariants as halts
-use Rattle.r3_cli.proofs.Closing.{run-ends, recover-ends, check-ends, run-goes, recover-goes}
-use Rattle.r3_cli.proofs.Causing.{functions-cause, store-cause, program-cause, long-cause, disk-cause, input-cause, no-form, err-same, completes}
+use Rattle.r3_cli.proofs.Closing.{run-ends, recover-ends, run-goes, recover-goes}
+use Rattle.r3_cli.proofs.Causing.{store-cause, program-cause, long-cause, disk-cause, input-cause, no-form, err-same, completes}
 use Rattle.r3_cli.proofs.top.top.Goals as goal
 
 pub returns-in-Ok-clause-recovers : goal.returns-in-Ok-clause-recovers
