@@ -1,4 +1,8 @@
 pub mod Refusals
-pub mod Going
+pub mod Saying
+pub mod Leaving
+pub mod Working
 pub mod Running
-pub mod Reaching
+pub mod Refusing
+pub mod Causing
+pub mod Closing

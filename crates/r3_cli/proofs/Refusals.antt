@@ -1,5 +1,5 @@
 -- Texts that are refused.
-use Rattle.std.proofs.Common.{◌≡◌, ℕ, List, None, sym, subst}
+use Rattle.std.proofs.Common.{◌≡◌, ℕ, List, None, subst}
 use Rattle.std.specs.Prelude.{Result, Err}
 use Rattle.fn_lex.specs.declared.span.Token.{Token}
 use Rattle.fn_lex.specs.Lexed.{Lexed}
@@ -8,7 +8,7 @@ use Rattle.fn_tree.specs.declared.program.Program.{Program}
 use Rattle.fn_grammar.specs.Letters.{letters}
 use Rattle.fn_grammar.specs.Derivation.{IsProgram}
 use Rattle.fn_grammar.specs.Place.{IsPlace}
-use Rattle.r3_load.specs.Texts.{Text}
+use Rattle.r3_model.specs.Language.{Text}
 use Rattle.r3_cli.specs.declared.functions.FunctionsFault.{FunctionsFault}
 use Rattle.r3_cli.specs.declared.functions.FunctionsFault.TheVariants as faults
 use Rattle.r3_cli.specs.declared.functions.NoFunctions.{NoFunctions}

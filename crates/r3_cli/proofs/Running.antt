@@ -1,124 +1,92 @@
--- What a run has come to.
-use Rattle.std.proofs.Common.{◌≡◌, ℕ, ◌<◌, ◌≤◌, ◌^◌, List, [], ◌∷◌, ◌++◌, length, Option, Some, None, Bool, true, false, refl, sym, ap, subst, ◌∙◌, arith, inl, inr, append_assoc}
-use Rattle.std.specs.Prelude.{◌⊎◌, take, nat_lt, if◌then◌else◌, Result, Ok, Err, OnOk}
-use Rattle.std.proofs.lemmas.Bool.Decides.{nat_tests}
-use Rattle.std.proofs.lemmas.List.{append-nil}
-use Rattle.r3_desk.specs.Disk.{told_push}
+-- A command on a store, from its opening on.
+use Rattle.std.proofs.Common.{◌≡◌, inr, ℕ, ◌<◌, ◌≤◌, ◌^◌, List, [], ◌∷◌, length, take, Option, Some, None, sym, subst}
+use Rattle.std.specs.Prelude.{Result, Ok, Err, OnErr}
+use Rattle.std.specs.Io.KnownBytes.{Consumes}
 use Rattle.fn_tree.specs.declared.program.Item.{Item}
 use Rattle.r3_entry.specs.declared.entry.Entry.{Entry}
 use Rattle.r3_entry.specs.Image.{IsHistoryOf}
-use Rattle.r3_gate.specs.declared.gate.Gate.{Gate}
-use Rattle.r3_script.specs.Lines.{lines_of, ended_lines}
-use Rattle.r3_load.specs.Texts.{Text}
-use Rattle.r3_load.specs.Loads.{Told, loaded, program_entry}
-use Rattle.r3_load.specs.Holds.{Holds, Stands}
-use Rattle.r3_load.specs.declared.stop.Stop.{Stop}
-use Rattle.r3_cli.specs.declared.halt.Halt.{Halt}
+use Rattle.r3_desk.specs.Asked as desk
+use Rattle.r3_desk.specs.Crash.{Reach}
+use Rattle.r3_store.specs.Holds as store
+use Rattle.r3_store.specs.declared.store.Store.{Store}
+use Rattle.r3_model.specs.Functions.{language_of}
+use Rattle.r3_model.specs.Language.{Text}
+use Rattle.r3_model.specs.Script.{Line, Drain}
+use Rattle.r3_exec.specs.declared.exec.Exec.{Exec}
+use Rattle.r3_serve.specs.Served.{Loud, Served, Stopped}
+use Rattle.r3_serve.specs.Scripted.{StoppedIn, script_lines, ended_script_lines}
 use Rattle.r3_cli.specs.declared.halt.Halt.TheVariants as halts
-use Rattle.r3_cli.specs.Ends.{End, Comes, Ends, Leaves, IsFault, refused, done, cut_off, run_store, run_script, status, status_of, last, last_line, IsRefusal}
+use Rattle.r3_cli.specs.Functions.{IsAccepted}
+use Rattle.r3_cli.specs.Refusals.{IsOpened}
+use Rattle.r3_cli.specs.Answered.{Answered}
+use Rattle.r3_cli.specs.Going.{Within, IsCutOff}
+use Rattle.r3_cli.specs.Ends.{RunComes, RecoverComes}
+use Rattle.r3_cli.proofs.Working.{answered, within-all, within-first, within-script}
 
-pub push_nil : (said : Option Text) → told_push said [] ≡ said
-push_nil None = refl
-push_nil (Some s) = ap (λ (x : Text). Some x) (append-nil s)
+-- of the text that is told, and of the history that the image stands for
+pub carry : (G : Text → List Entry → Type 0) (text text' : Text) (h h' : List Entry) → text' ≡ text → h' ≡ h → G text' h' → G text h
+carry G text text' h h' a b x = subst (λ (t : Text). G t h) a (subst (λ (k : List Entry). G text' k) b x)
 
--- ---- which run it is
+ok-err : {T E : Type 0} (x : T) (e : E) → ◌≡◌ {A = Result T E} (Ok x) (Err e) → ⊥
+ok-err x e is = cc
 
-pub long_store : (text image script : Text) (items : List Item) → 9 < length image → run_store text items image script ≡ refused halts.Unbuilt
-long_store text image script items long = let b : nat_lt 9 (length image) ≡ true = grind (arith, nat_tests) in rw b refl
+of-err : {T E P : Type 0} (result : Result T E) (fault : E) → result ≡ Err fault → OnErr result P → P
+of-err (Ok x) fault is p = absurd (ok-err x fault is)
+of-err (Err e) fault is p = p
 
-pub whole_script : (text image script : Text) (items : List Item) → length image ≤ 9 → length script ≤ 2 ^ 26 → run_store text items image script ≡ done (loaded items text (lines_of script))
-whole_script text image script items short fits =
-    let b : nat_lt 9 (length image) ≡ false = grind (arith, nat_tests) in
-    let d : nat_lt (2 ^ 26) (length script) ≡ false = grind (arith, nat_tests) in
-    rw (b, d) refl
+opened-now : (text : Text) (image : Option Text) (items now : List Item) (h : List Entry) → now ≡ items → IsOpened text image items h → IsOpened text image now h
+opened-now text image items now h same o = subst (λ (is : List Item). IsOpened text image is h) (sym same) o
 
-pub long_script : (text image script : Text) (items : List Item) → length image ≤ 9 → 2 ^ 26 < length script
-    → run_store text items image script ≡ cut_off (loaded items text (ended_lines (take (2 ^ 26) script)))
-long_script text image script items short over =
-    let b : nat_lt 9 (length image) ≡ false = grind (arith, nat_tests) in
-    let d : nat_lt (2 ^ 26) (length script) ≡ true = grind (arith, nat_tests) in
-    rw (b, d) refl
+module _ {D : Type 0} (size : D → Option ℕ) (image : D → Option Text) (may_leave : D → Text → Type 0) (moment : D → ℕ) (reach : D → Reach) (said : D → Option Text) (asked : D → Option (List desk.Call))
+    (reads : (d : D) (s : Store) (h : List Entry) (k : ℕ) (c : Text) → store.Holds size image may_leave d s h k → image d ≡ Some c → IsHistoryOf (take k h) c)
+    (crash : (d : D) (s : Store) (h : List Entry) (k : ℕ) (c : Text) → store.Holds size image may_leave d s h k → may_leave d c → IsHistoryOf (take k h) c)
+    (from now : D) (exec : Exec) (items : List Item) (same : exec.program ≡ items) (text : Text) (h : List Entry) (opened : IsOpened text (image from) items h) where
+  abbrev Went : List Line → Type 0
+  Went lines = Served size image may_leave moment reach said asked from now exec Loud text h lines
 
--- ---- what it has come to
+  here : IsOpened text (image from) exec.program h
+  here = opened-now text (image from) items exec.program h same opened
 
-pub comes_refused : (e : End) (halt : Halt) (said image said' image' : Option Text) → e ≡ refused halt → said' ≡ said → image' ≡ image → Comes e said image said' image' (Some halt)
-comes_refused e halt said image said' image' is same kept =
-    subst (λ (x : End). Comes x said image said' image' (Some halt)) (sym is)
-    (record { halted = refl; replies = same ∙ sym (push_nil said); left = kept })
+  done : (lines : List Line) → Went lines → Answered image may_leave moment reach said asked from now (language_of exec.program) text h lines []
+  done lines went = answered size image may_leave moment reach said asked reads crash from now exec text h lines went
 
-module _ (D : Type 0) (s : D → Option ℕ) (i : D → Option Text) (m : D → Text → Type 0) (t : D → Option Text) (d : D) (g : Gate) where
-  pub stands_first : (text : Text) (said : Option Text) → t d ≡ said → Holds s i m d g (program_entry text ∷ []) → Stands s i m t d g said (record { history = program_entry text ∷ []; said = [] })
-  stands_first text said same holds = record { holds = holds; some = omega arith; said = same ∙ sym (push_nil said) }
+  -- ---- what it has come to
 
-  pub comes_done : (e : End) (told : Told) (said image : Option Text) → e ≡ done told → Stands s i m t d g said told
-      → ((image' : Text) → i d ≡ Some image' → IsHistoryOf told.history image') → Comes e said image (t d) (i d) None
-  comes_done e told said image is stands left =
-      subst (λ (x : End). Comes x said image (t d) (i d) None) (sym is) (record { halted = refl; replies = stands.said; left = left })
+  pub all-lines : (left left' : Option Text) → ((script : Text) → left ≡ Some script → (length script ≤ 2 ^ 26) × Went (script_lines script))
+      → RunComes image may_leave moment reach said asked from now left left' text None []
+  all-lines left left' went = inr (exec.program, h, here, λ script is. let x = went script is in (x.0, done (script_lines script) x.1))
 
-  pub comes_cut_off : (e : End) (told : Told) (said image : Option Text) → e ≡ cut_off told → Stands s i m t d g said told
-      → ((image' : Text) → i d ≡ Some image' → IsHistoryOf told.history image') → Comes e said image (t d) (i d) (Some halts.Long)
-  comes_cut_off e told said image is stands left =
-      subst (λ (x : End). Comes x said image (t d) (i d) (Some halts.Long)) (sym is) (record { halted = refl; replies = stands.said; left = left })
+  pub too-long : (left left' : Option Text) → ((script : Text) → left ≡ Some script → (2 ^ 26 < length script) × Went (ended_script_lines (take (2 ^ 26) script)))
+      → RunComes image may_leave moment reach said asked from now left left' text (Some halts.LongScript) []
+  too-long left left' went = inr (exec.program, h, here, λ script is. let x = went script is in (x.0, done (ended_script_lines (take (2 ^ 26) script)) x.1))
 
-  pub comes_whole : (text image script : Text) (items : List Item) (said : Option Text) → length image ≤ 9
-      → ((h : List Entry) → 1 ≤ length h → Holds s i m d g h → (c : Text) → i d ≡ Some c → IsHistoryOf h c)
-      → (length script ≤ 2 ^ 26) × Stands s i m t d g said (loaded items text (lines_of script))
-      → Comes (run_store text items image script) said (Some image) (t d) (i d) None
-  comes_whole text image script items said short holds stands =
-      comes_done (run_store text items image script) (loaded items text (lines_of script)) said (Some image)
-      (whole_script text image script items short stands.0) stands.1 (holds _ stands.1.some stands.1.holds)
+  pub source-failed : (left left' : Option Text) → (given : Text) × Consumes left left' given × Went (ended_script_lines given)
+      → RunComes image may_leave moment reach said asked from now left left' text (Some halts.Script) []
+  source-failed left left' went = inr (exec.program, h, here, (went.0, went.1, done (ended_script_lines went.0) went.2))
 
-  pub comes_cut : (text image script : Text) (items : List Item) (said : Option Text) → length image ≤ 9
-      → ((h : List Entry) → 1 ≤ length h → Holds s i m d g h → (c : Text) → i d ≡ Some c → IsHistoryOf h c)
-      → (2 ^ 26 < length script) × Stands s i m t d g said (loaded items text (ended_lines (take (2 ^ 26) script)))
-      → Comes (run_store text items image script) said (Some image) (t d) (i d) (Some halts.Long)
-  comes_cut text image script items said short holds stands =
-      comes_cut_off (run_store text items image script) (loaded items text (ended_lines (take (2 ^ 26) script))) said (Some image)
-      (long_script text image script items short stands.0) stands.1 (holds _ stands.1.some stands.1.holds)
+  pub drained : (turns : ℕ) → Went (Drain turns ∷ []) → RecoverComes image may_leave moment reach said asked from now turns text None []
+  drained turns went = inr (exec.program, h, here, done (Drain turns ∷ []) went)
 
-pub on_ok : {T E : Type 0} (r : Result T E) (A B : Type 0) → (A → B) → OnOk r A → OnOk r B
-on_ok (Ok x) A B f a = f a
-on_ok (Err e) A B f a = tt
+  -- ---- how it goes
 
-pub stop_of : (a b : Stop) → ◌≡◌ {A = Result (Unit {0}) Stop} (Err a) (Err b) → a ≡ b
-stop_of a b is = cc
+  abbrev pub GoesWithin : List Line → Text → List Entry → Type 0
+  GoesWithin lines text' h' = (is : List Item) × IsAccepted text' is × Within image may_leave moment reach said asked from now (language_of is) text' h' lines
 
--- ---- how a call ends
+  pub goes-all : (lines : List Line) → Went lines → GoesWithin lines text h
+  goes-all lines went = (exec.program, here.file.1, within-all size image may_leave moment reach said asked from now exec.program text h lines (done lines went))
 
-pushed : (first : Option Text) (told more : Text) → told_push (told_push first told) more ≡ told_push first (told ++ more)
-pushed None told more = refl
-pushed (Some said) told more = ap (λ (x : Text). Some x) (append_assoc said told more)
+  pub goes-within : {T E : Type 0} (result : Result T E) (fault : E) → result ≡ Err fault → (script : Text)
+      → OnErr result (StoppedIn size image may_leave moment reach said asked from now exec text h [] script) → GoesWithin (script_lines script) text h
+  goes-within result fault is script stopped =
+      let part : StoppedIn size image may_leave moment reach said asked from now exec text h [] script = of-err result fault is stopped in
+      (exec.program, here.file.1, within-script size image may_leave moment reach said asked reads crash from now exec text h script part)
 
-pub ends_ok : (e : End) (said image said1 image1 : Option Text) → Comes e said image said1 image1 None → Ends e said image said1 image1 0
-ends_ok e said image said1 image1 comes = record {
-  answered = ap (λ (o : Option Halt). status o) comes.halted;
-  replies = comes.replies ∙ ap (λ (x : Text). told_push said x) (sym (append-nil e.said)) ∙ ap (λ (o : Option Halt). told_push said (e.said ++ last o)) comes.halted;
-  left = comes.left;
-}
+  pub goes-first : {T E : Type 0} (result : Result T E) (fault : E) → result ≡ Err fault → (line : Line)
+      → OnErr result (Stopped image moment reach said asked from now (language_of items) Loud text h [] line) → GoesWithin (line ∷ []) text h
+  goes-first result fault is line stopped =
+      let at : Stopped image moment reach said asked from now (language_of items) Loud text h [] line = of-err result fault is stopped in
+      (items, opened.file.1, within-first size image may_leave moment reach said asked from now items text h line at)
 
-pub ends_of : (halt : Halt) (e : End) (said image said1 image1 said2 image2 : Option Text) (answer : ℕ) → Comes e said image said1 image1 (Some halt)
-    → answer ≡ status_of halt → said2 ≡ told_push said1 (last_line halt) → image2 ≡ image1 → Ends e said image said2 image2 answer
-ends_of halt e said image said1 image1 said2 image2 answer comes is says kept = record {
-  answered = is ∙ ap (λ (o : Option Halt). status o) comes.halted;
-  replies = says ∙ ap (λ (x : Option Text). told_push x (last_line halt)) comes.replies ∙ pushed said e.said (last_line halt)
-      ∙ ap (λ (o : Option Halt). told_push said (e.said ++ last o)) comes.halted;
-  left = subst (λ (x : Option Text). Leaves e.history image x) (sym kept) comes.left;
-}
-
--- with what a halted call has reached, its end has come to it, or something has failed
-module _ (R : End → Type 0) (said image said1 image1 said2 image2 : Option Text) (answer : ℕ) where
-  reached : (halt : Halt) → ((e : End) × R e × Comes e said image said1 image1 (Some halt)) → (answer ≡ status_of halt) × (said2 ≡ told_push said1 (last_line halt)) → image2 ≡ image1
-      → IsFault answer ⊎ ((e : End) × R e × Ends e said image said2 image2 answer)
-  reached halt came is kept = inr (came.0, came.1, ends_of halt came.0 said image said1 image1 said2 image2 answer came.2 is.0 is.1 kept)
-
-  pub ends_err : (halt : Halt) → (IsRefusal halt → (e : End) × R e × Comes e said image said1 image1 (Some halt))
-      → (answer ≡ status_of halt) × (said2 ≡ told_push said1 (last_line halt)) → image2 ≡ image1
-      → IsFault answer ⊎ ((e : End) × R e × Ends e said image said2 image2 answer)
-  ends_err halts.Usage came is kept = reached halts.Usage (came tt) is kept
-  ends_err halts.Memory came is kept = inl (inl is.0)
-  ends_err halts.Disk came is kept = inl (inr (inl is.0))
-  ends_err halts.Say came is kept = inl (inr (inr (inl is.0)))
-  ends_err halts.Input came is kept = inl (inr (inr (inr is.0)))
-  ends_err (halts.Functions f) came is kept = reached (halts.Functions f) (came tt) is kept
-  ends_err halts.Long came is kept = reached halts.Long (came tt) is kept
-  ends_err halts.Unbuilt came is kept = reached halts.Unbuilt (came tt) is kept
+  pub goes-cut : (script : Text) → (2 ^ 26 < length script) × Went (ended_script_lines (take (2 ^ 26) script))
+      → IsCutOff image may_leave moment reach said asked from now text h script []
+  goes-cut script went = (exec.program, here.file.1, went.0, done (ended_script_lines (take (2 ^ 26) script)) went.1)

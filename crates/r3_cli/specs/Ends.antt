@@ -1,97 +1,68 @@
--- How a call ends: what halted it, what it says and the history that it leaves, by the function file, the store's file and the script.
-use Rattle.std.specs.Prelude.{◌≡◌, ◌⊎◌, ℕ, ◌≤◌, ◌<◌, ◌^◌, nat_lt, List, [], ◌++◌, length, take, fold, Option, Some, None, if◌then◌else◌, ⊤}
-use Rattle.r3_json.specs.Lines as json
-use Rattle.r3_desk.specs.Disk.{told_push}
+-- What a call has come to: refused before it has changed anything, or done as far as it says.
+use Rattle.std.specs.Prelude.{◌≡◌, ◌⊎◌, ℕ, ◌<◌, ◌≤◌, ◌^◌, List, [], ◌∷◌, ◌++◌, length, take, Option, Some, None, Result, Ok, Err}
+use Rattle.std.specs.Option.{ForSome}
+use Rattle.std.specs.Io.KnownBytes.{Consumes}
 use Rattle.fn_tree.specs.declared.program.Item.{Item}
 use Rattle.r3_entry.specs.declared.entry.Entry.{Entry}
-use Rattle.r3_entry.specs.Image.{IsHistoryOf}
-use Rattle.r3_script.specs.Lines.{lines_of, ended_lines}
-use Rattle.r3_load.specs.Texts.{Text}
-use Rattle.r3_load.specs.Lines.{line_of}
-use Rattle.r3_load.specs.Loads.{Told, answered, loaded}
-use Rattle.r3_cli.specs.Functions.{IsAccepted, IsRefused}
-use Rattle.r3_cli.specs.declared.functions.FunctionsFault.{FunctionsFault}
+use Rattle.r3_desk.specs.Asked as desk
+use Rattle.r3_desk.specs.Crash.{Reach}
+use Rattle.r3_json.specs.Lines as json
+use Rattle.r3_model.specs.Functions.{language_of}
+use Rattle.r3_model.specs.Language.{Text}
+use Rattle.r3_model.specs.Script.{Drain}
+use Rattle.r3_serve.specs.Scripted.{script_lines, ended_script_lines}
+use Rattle.r3_cli.specs.Statuses.{status, last}
+use Rattle.r3_cli.specs.Counts.{counts_data}
+use Rattle.r3_cli.specs.Refusals.{IsFile, IsFileRefusal, IsRefusal, IsOpened}
+use Rattle.r3_cli.specs.Answered.{Says, Answered}
 use Rattle.r3_cli.specs.declared.halt.Halt.{Halt}
 use Rattle.r3_cli.specs.declared.halt.Halt.TheVariants as halts
-pub use Rattle.r3_cli.specs.Commands.{asked_by}
-pub use Rattle.r3_cli.specs.Statuses.{status_of, last_line, one, halt_of, status, last}
-pub use Rattle.r3_cli.specs.Counts.{is_of, counts_data}
 
--- after these lines more
-abbrev pub after_lines : List Item → Told → List Text → Told
-after_lines items told lines = fold (λ told line. answered items told (line_of line)) told lines
+-- a status, and all that was said with its last line
+abbrev pub EndsAs : (Option Halt → Text → Type 0) → ℕ → Type 0
+EndsAs Comes answer = (end : Option Halt) × (answer ≡ status end) × Comes end (last end)
 
--- ---- a call's end
+-- why a command is halted, if it is
+abbrev pub end_of : {T : Type 0} → Result T Halt → Option Halt
+end_of (Ok x) = None
+end_of (Err halt) = Some halt
 
--- what halted it before all was done, what it said, and the history that the store then holds; none where the file is
--- as it was
-pub record End : Type 0 where
-  pub halt : Option Halt
-  pub said : Text
-  pub history : Option (List Entry)
+module _ {D : Type 0} (told_image : D → Option Text) (may_leave : D → Text → Type 0) (moment : D → ℕ) (reach : D → Reach) (said : D → Option Text) (asked : D → Option (List desk.Call)) (from now : D) where
+  -- What is done of a script, and behind it this line: all of its lines; or those that end within the limit; or
+  -- within what was given before the source failed.
+  abbrev pub RunWork : Option Text → Option Text → Text → List Item → List Entry → Option Halt → Text → Type 0
+  RunWork left_then left_now text items h None line =
+      ForSome left_then (λ script. (length script ≤ 2 ^ 26)
+      × Answered told_image may_leave moment reach said asked from now (language_of items) text h (script_lines script) line)
+  RunWork left_then left_now text items h (Some halts.LongScript) line =
+      ForSome left_then (λ script. (2 ^ 26 < length script)
+      × Answered told_image may_leave moment reach said asked from now (language_of items) text h (ended_script_lines (take (2 ^ 26) script)) line)
+  RunWork left_then left_now text items h (Some halts.Script) line =
+      (given : Text) × Consumes left_then left_now given
+      × Answered told_image may_leave moment reach said asked from now (language_of items) text h (ended_script_lines given) line
+  RunWork left_then left_now text items h end line = ⊥
 
--- it was refused before the store was written
-abbrev pub refused : Halt → End
-refused halt = record { halt = Some halt; said = []; history = None }
+  -- one drain
+  abbrev pub RecoverWork : ℕ → Text → List Item → List Entry → Option Halt → Text → Type 0
+  RecoverWork turns text items h None line =
+      Answered told_image may_leave moment reach said asked from now (language_of items) text h (Drain turns ∷ []) line
+  RecoverWork turns text items h end line = ⊥
 
--- all lines were answered
-abbrev pub done : Told → End
-done told = record { halt = None; said = told.said; history = Some told.history }
+  -- A call on a store was refused, or has done this work. Behind its replies it has said this line.
+  abbrev pub Comes : Text → (List Item → List Entry → Option Halt → Text → Type 0) → Option Halt → Text → Type 0
+  Comes text Work end line =
+      (IsRefusal text (told_image from) end × Says told_image said asked from now line)
+      ⊎ ((items : List Item) × (h : List Entry) × IsOpened text (told_image from) items h × Work items h end line)
 
--- the script is too long, and the lines that end within the limit were answered
-abbrev pub cut_off : Told → End
-cut_off told = record { halt = Some halts.Long; said = told.said; history = Some told.history }
+  abbrev pub RunComes : Option Text → Option Text → Text → Option Halt → Text → Type 0
+  RunComes left_then left_now text end line = Comes text (RunWork left_then left_now text) end line
 
--- a run of a script over an empty store, with functions of these items and this text
-abbrev pub run_script : Text → List Item → Text → End
-run_script text items script =
-    if nat_lt (2 ^ 26) (length script)
-    then cut_off (loaded items text (ended_lines (take (2 ^ 26) script)))
-    else done (loaded items text (lines_of script))
+  abbrev pub RecoverComes : ℕ → Text → Option Halt → Text → Type 0
+  RecoverComes turns text end line = Comes text (RecoverWork turns text) end line
 
--- the same over a store of this image
-abbrev pub run_store : Text → List Item → Text → Text → End
-run_store text items image script =
-    if nat_lt 9 (length image) then refused halts.Unbuilt else run_script text items script
-
--- what `check` has come to
-abbrev pub counts_told : List Item → End
-counts_told items = record { halt = None; said = json.line_of (counts_data items); history = None }
-
--- what a call halts for whatever the disk, the output and the input do
-abbrev pub IsRefusal : Halt → Type 0
-IsRefusal halts.Memory = ⊥
-IsRefusal halts.Disk = ⊥
-IsRefusal halts.Say = ⊥
-IsRefusal halts.Input = ⊥
-IsRefusal halt = ⊤
-
--- ---- which end a call has come to, by the function file and by what it does with functions that are accepted
-
-pub data Reaches (go : List Item → End) (text : Text) : End → Type 0 where
-  too_long : 2 ^ 20 < length text → Reaches go text (refused halts.Long)
-  unread : (fault : FunctionsFault) → length text ≤ 2 ^ 20 → IsRefused text fault → Reaches go text (refused (halts.Functions fault))
-  accepted : (items : List Item) → length text ≤ 2 ^ 20 → IsAccepted text items → Reaches go text (go items)
-
--- ---- what is told of it
-
--- the file holds the history, or is as it was
-abbrev pub Leaves : Option (List Entry) → Option Text → Option Text → Type 0
-Leaves None before now = now ≡ before
-Leaves (Some h) before now = (image : Text) → now ≡ Some image → IsHistoryOf h image
-
--- it has come to this: halted so, with its replies said behind what was said at first
-pub record Comes (e : End) (said image told_said told_image : Option Text) (reason : Option Halt) : Type 0 where
-  pub halted : reason ≡ e.halt
-  pub replies : told_said ≡ told_push said e.said
-  pub left : Leaves e.history image told_image
-
--- it has answered with the status, after the replies and the last line
-pub record Ends (e : End) (said image told_said told_image : Option Text) (answer : ℕ) : Type 0 where
-  pub answered : answer ≡ status e.halt
-  pub replies : told_said ≡ told_push said (e.said ++ last e.halt)
-  pub left : Leaves e.history image told_image
-
--- want of memory, or a disk, an output or an input that has failed
-abbrev pub IsFault : ℕ → Type 0
-IsFault answer = (answer ≡ 3) ⊎ (answer ≡ 4) ⊎ (answer ≡ 5) ⊎ (answer ≡ 6)
+-- The function file was refused, or it was said how many items of each kind there are.
+abbrev pub CheckComes : {D : Type 0} → (D → Option Text) → (D → Option Text) → (D → Option (List desk.Call)) → D → D → Text → Option Halt → Text → Type 0
+CheckComes told_image said asked from now text end line =
+    (IsFileRefusal text end × Says told_image said asked from now line)
+    ⊎ ((items : List Item) × IsFile text items × (end ≡ None)
+    × Says told_image said asked from now (json.line_of (counts_data items) ++ line))

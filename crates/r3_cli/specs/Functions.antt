@@ -1,5 +1,5 @@
 -- Which texts are function files, and what a text is refused for.
-use Rattle.std.specs.Prelude.{◌≡◌, ℕ, List, Option, Some, None}
+use Rattle.std.specs.Prelude.{◌≡◌, ℕ, List, Some, None}
 use Rattle.serde_json.specs.Data.{Data, number, unsigned, string, object, member, no_members}
 use Rattle.std.specs.Prelude.{codes}
 use Rattle.fn_lex.specs.declared.span.Token.{Token}
@@ -12,7 +12,7 @@ use Rattle.fn_grammar.specs.Place.{IsPlace}
 use Rattle.fn_check.specs.declared.fault.CheckKind.{CheckKind}
 use Rattle.fn_check.specs.declared.fault.CheckKind.TheVariants as kinds
 use Rattle.fn_check.specs.FirstFault.{first_fault}
-use Rattle.r3_load.specs.Texts.{Text}
+use Rattle.r3_model.specs.Language.{Text}
 use Rattle.r3_cli.specs.declared.functions.FunctionsFault.{FunctionsFault}
 use Rattle.r3_cli.specs.declared.functions.FunctionsFault.TheVariants as faults
 

@@ -1,5 +1,10 @@
 pub mod Functions
 pub mod Commands
-pub mod Statuses
 pub mod Counts
+pub mod Statuses
+pub mod Refusals
+pub mod Answered
+pub mod Going
 pub mod Ends
+pub mod Closes
+pub mod Causes

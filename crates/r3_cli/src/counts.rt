@@ -3,7 +3,7 @@
 ghost use Rattle.std.specs.Prelude.{◌≡◌, IfOk, count_by};
 ghost use Rattle.serde_json.specs.View.{view};
 ghost use Rattle.r3_json.specs.Lines.{line_of};
-ghost use Rattle.r3_cli.specs.Ends.{is_of, counts_data};
+ghost use Rattle.r3_cli.specs.Counts.{is_of, counts_data};
 
 use fn_tree::checked::Checked;
 use fn_tree::program::Item;

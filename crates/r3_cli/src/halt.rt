@@ -4,17 +4,17 @@ ghost use Rattle.std.specs.Prelude.{◌≡◌, IfOk};
 ghost use Rattle.serde_json.specs.View.{view};
 ghost use Rattle.r3_json.specs.Lines.{line_of};
 ghost use Rattle.r3_cli.specs.Functions.{kind_word, place_data, item_data, functions_data};
-ghost use Rattle.r3_cli.specs.Ends.{status_of, halt_of, last_line, one};
+ghost use Rattle.r3_cli.specs.Statuses.{entry_of, last_line, one, status_of, store_data};
 
 use crate::functions::FunctionsFault;
 use fn_check::CheckKind;
 use r3_json::line;
-use r3_load::Stop;
+use r3_store::OpenFault;
 use r3_value::Memory;
 use serde_json::{Value, json};
 use std::alloc::{AllocError, Global};
 
-/// Why a call ends early. Each has an exit status of its own.
+/// Why a call ends early. Each has an exit status.
 #[derive(Clone, Copy, Debug, PartialEq, Eq)]
 pub enum Halt {
     /// The words are no command.
@@ -25,29 +25,20 @@ pub enum Halt {
     Disk,
     /// The output has failed.
     Say,
-    /// The script or the function file can't be read.
-    Input,
+    /// The function file can't be read.
+    Files,
+    /// The script can't be read any further.
+    Script,
     /// The function file is refused.
     Functions { fault: FunctionsFault },
-    /// The script or the function file is too long.
-    Long,
-    /// The store isn't empty.
-    Unbuilt,
-}
-
-/// What stops a run over a store, as the program tells it.
-pub fn halt_of(stop: Stop) -> Halt
-    ensures { result ≡ halt_of stop }
-{
-    match stop {
-        Stop::Usage => Halt::Usage,
-        Stop::Memory => Halt::Memory,
-        Stop::Disk => Halt::Disk,
-        Stop::Say => Halt::Say,
-        Stop::Input => Halt::Input,
-        Stop::Long => Halt::Long,
-        Stop::Unbuilt => Halt::Unbuilt,
-    }
+    /// The file is no store, and this entry, counted from 1, is the first that is wrong; 0 where it isn't one at all.
+    Store { entry: u32 },
+    /// The store was begun with another program.
+    Program,
+    /// The function file has more than 2^20 bytes.
+    LongFile,
+    /// The script has more than 2^26 bytes.
+    LongScript,
 }
 
 /// The exit status.
@@ -59,10 +50,21 @@ pub fn status_of(halt: Halt) -> u8
         Halt::Memory => 3,
         Halt::Disk => 4,
         Halt::Say => 5,
-        Halt::Input => 6,
+        Halt::Files | Halt::Script => 6,
         Halt::Functions { .. } => 7,
-        Halt::Long => 10,
-        Halt::Unbuilt => 12,
+        Halt::Store { .. } => 8,
+        Halt::Program => 9,
+        Halt::LongFile | Halt::LongScript => 10,
+    }
+}
+
+/// The entry that is told of a file that is no store.
+pub fn entry_of(fault: OpenFault) -> u32
+    ensures { result ≡ entry_of fault }
+{
+    match fault {
+        OpenFault::Damaged { entry } | OpenFault::NotFormed { entry } => entry,
+        _ => 0,
     }
 }
 
@@ -121,15 +123,29 @@ fn word_line(alloc: Global, word: &str) -> Result<Vec<u8>, Memory>
     line(alloc, &json)
 }
 
-/// What is said last; nothing after a fault.
+fn store_json(alloc: Global, entry: u32) -> Result<Value, AllocError>
+    ensures { IfOk result (λ json. view json ≡ store_data entry) }
+{
+    json!(in alloc; {"entry": entry, "fault": "store"})
+}
+
+fn store_line(alloc: Global, entry: u32) -> Result<Vec<u8>, Memory>
+    ensures { IfOk result (λ text. text.items ≡ line_of (store_data entry)) }
+{
+    let json = store_json(alloc, entry)?;
+    line(alloc, &json)
+}
+
+/// What is said last; nothing where something has failed.
 pub fn last_line(alloc: Global, halt: Halt) -> Result<Vec<u8>, Memory>
     ensures { IfOk result (λ text. text.items ≡ last_line halt) }
 {
     match halt {
         Halt::Usage => word_line(alloc, "usage"),
         Halt::Functions { fault } => functions_line(alloc, fault),
-        Halt::Long => word_line(alloc, "long"),
-        Halt::Unbuilt => word_line(alloc, "unbuilt"),
+        Halt::Store { entry } => store_line(alloc, entry),
+        Halt::Program => word_line(alloc, "program"),
+        Halt::LongFile | Halt::LongScript => word_line(alloc, "long"),
         _ => Ok(Vec::new(alloc)),
     }
 }

@@ -4,13 +4,14 @@
 //! the one that the words, the files and the script reach. `main` hands it the real ones.
 #![tactic(auto)]
 
+mod begin;
 #[cfg(test)]
 mod cases;
-mod checking;
+mod check;
 mod counts;
+mod files;
 mod functions;
 mod halt;
-mod lines;
 mod run;
 mod top;
 

@@ -1,18 +1,29 @@
 //! The whole program, over any environment.
 
-ghost use Rattle.std.specs.Prelude.{◌≡◌, ◌⊎◌, true, Err, Some, None, OnOk, map, string_bytes};
+ghost use Rattle.std.specs.Prelude.{◌≡◌, ◌⊎◌, ◌<◌, ◌^◌, ℕ, true, [], List, length, Err, Some, None, IfErr, OnOk, map, string_bytes};
+ghost use Rattle.std.specs.Option.{ForSome};
 ghost use Rattle.r3_desk.specs.Causes.{Rose};
 ghost use Rattle.r3_desk.specs.Crash.{NothingPending};
-ghost use Rattle.r3_desk.specs.Disk.{told_push};
-ghost use Rattle.r3_load.specs.Texts.{Text};
-ghost use Rattle.r3_words.specs.Forms.{run as run_form, check as check_form};
-ghost use Rattle.r3_cli.specs.Ends.{asked_by, counts_told, last_line, run_store, status_of, Comes, End, Ends, IsFault, IsRefusal, Reaches};
-ghost use Rattle.r3_cli.specs.declared.halt.Halt.{Halt as Why};
+ghost use Rattle.r3_entry.specs.declared.entry.Entry.{Entry};
+ghost use Rattle.r3_entry.specs.Image.{IsHistoryOf};
+ghost use Rattle.r3_model.specs.Language.{Text};
+ghost use Rattle.r3_recover.specs.Opened.{HasProgram};
+ghost use Rattle.r3_words.specs.Forms.{Form, run as run_form, recover as recover_form, check as check_form};
+ghost use Rattle.r3_cli.specs.Commands.{asked_by, file_of};
+ghost use Rattle.r3_cli.specs.Functions.{IsRefused};
+ghost use Rattle.r3_cli.specs.Statuses.{IsBroken, IsFault, last_line, status_of};
+ghost use Rattle.r3_cli.specs.Refusals.{IsNoStore, IsOthers};
+ghost use Rattle.r3_cli.specs.Causes.{HasCause, HasScript, HasStore, IsTaken};
+ghost use Rattle.r3_cli.specs.Answered.{Says};
+ghost use Rattle.r3_cli.specs.Going.{Before, IsCutOff, RecoverGoes, RunGoes, Unbegun};
+ghost use Rattle.r3_cli.specs.Ends.{CheckComes, EndsAs, RecoverComes, RunComes, end_of};
+ghost use Rattle.r3_cli.specs.Closes.{IsSilent, SaysLast};
+ghost use Rattle.r3_cli.specs.declared.functions.FunctionsFault.{FunctionsFault};
 ghost use Rattle.r3_cli.specs.declared.halt.Halt.TheVariants as halts;
 
-use crate::checking::check;
+use crate::check::check;
 use crate::halt::{Halt, last_line, status_of};
-use crate::run::run;
+use crate::run::{recover, run};
 use r3_desk::{Desk, Shelf, Source};
 use r3_words::{Command, read};
 use std::alloc::Global;
@@ -26,35 +37,49 @@ fn command<D: Desk, S: Source, F: Shelf>(
     shelf: &mut F,
 ) -> Result<(), Halt>
     requires { NothingPending (D.image desk.old) (D.may_leave desk.old) }
-    ensures runs { (functions text image lines : Text) → asked_by (map string_bytes words.now) ≡ Some (run_form functions) →
+    ensures runs { (functions text : Text) → asked_by (map string_bytes words.now) ≡ Some (run_form functions) →
+        F.text_of shelf.old functions ≡ Some text →
+        IsBroken (end_of result) ⊎ RunComes D.image D.may_leave D.moment D.reach D.said D.asked desk.old desk.new
+        (S.left script.old) (S.left script.new) text (end_of result) [] }
+    ensures run_goes { (functions text image lines : Text) (h : List Entry) →
+        asked_by (map string_bytes words.now) ≡ Some (run_form functions) →
         F.text_of shelf.old functions ≡ Some text → D.image desk.old ≡ Some image → S.left script.old ≡ Some lines →
-        OnOk result ((e : End) × Reaches (λ items. run_store text items image lines) text e × Comes e
-        (D.said desk.old) (D.image desk.old) (D.said desk.new) (D.image desk.new) None) }
-    ensures run_halts { (functions text image lines : Text) (why : Why) → asked_by (map string_bytes words.now) ≡ Some (run_form functions) →
-        F.text_of shelf.old functions ≡ Some text → D.image desk.old ≡ Some image → S.left script.old ≡ Some lines →
-        result ≡ Err why → IsRefusal why →
-        (e : End) × Reaches (λ items. run_store text items image lines) text e × Comes e
-        (D.said desk.old) (D.image desk.old) (D.said desk.new) (D.image desk.new) (Some why) }
+        IsHistoryOf h image → HasProgram h text →
+        Before (Unbegun D.image D.may_leave D.moment D.reach D.said D.asked desk.old desk.new h [])
+        (IsCutOff D.image D.may_leave D.moment D.reach D.said D.asked desk.old desk.new text h lines [])
+        (RunGoes D.image D.may_leave D.moment D.reach D.said D.asked desk.old desk.new text h lines) (end_of result) }
+    ensures recovers { (functions text : Text) (turns : ℕ) →
+        asked_by (map string_bytes words.now) ≡ Some (recover_form functions turns) →
+        F.text_of shelf.old functions ≡ Some text →
+        IsBroken (end_of result) ⊎ RecoverComes D.image D.may_leave D.moment D.reach D.said D.asked desk.old desk.new
+        turns text (end_of result) [] }
+    ensures recover_goes { (functions text image : Text) (turns : ℕ) (h : List Entry) →
+        asked_by (map string_bytes words.now) ≡ Some (recover_form functions turns) →
+        F.text_of shelf.old functions ≡ Some text → D.image desk.old ≡ Some image →
+        IsHistoryOf h image → HasProgram h text →
+        Before (Unbegun D.image D.may_leave D.moment D.reach D.said D.asked desk.old desk.new h []) ⊥
+        (RecoverGoes D.image D.may_leave D.moment D.reach D.said D.asked desk.old desk.new text h turns) (end_of result) }
     ensures checks { (functions text : Text) → asked_by (map string_bytes words.now) ≡ Some (check_form functions) →
         F.text_of shelf.old functions ≡ Some text →
-        OnOk result ((e : End) × Reaches counts_told text e × Comes e
-        (D.said desk.old) (D.image desk.old) (D.said desk.new) (D.image desk.new) None) }
-    ensures check_halts { (functions text : Text) (why : Why) → asked_by (map string_bytes words.now) ≡ Some (check_form functions) →
-        F.text_of shelf.old functions ≡ Some text → result ≡ Err why → IsRefusal why →
-        (e : End) × Reaches counts_told text e × Comes e
-        (D.said desk.old) (D.image desk.old) (D.said desk.new) (D.image desk.new) (Some why) }
+        IsBroken (end_of result) ⊎ CheckComes D.image D.said D.asked desk.old desk.new text (end_of result) [] }
+    ensures opens_no_store { (functions : Text) → asked_by (map string_bytes words.now) ≡ Some (check_form functions) →
+        (D.image desk.new ≡ D.image desk.old) × (D.disk_faults desk.new ≡ D.disk_faults desk.old) }
     ensures no_command { asked_by (map string_bytes words.now) ≡ None →
         (desk.new ≡ desk.old) × ((result ≡ Err Halt.Usage) ⊎ (result ≡ Err Halt.Memory)) }
+    ensures causes { (form : Form) (path text : Text) → asked_by (map string_bytes words.now) ≡ Some form →
+        file_of form ≡ Some path → F.text_of shelf.old path ≡ Some text →
+        IfErr result (HasCause form text (D.image desk.old) (S.left script.old)) }
     ensures usage { result ≡ Err Halt.Usage → asked_by (map string_bytes words.now) ≡ None }
     ensures disk { result ≡ Err Halt.Disk → Rose (D.disk_faults desk.old) (D.disk_faults desk.new) }
     ensures disk_kept { (result ≡ Err Halt.Disk → ⊥) → D.disk_faults desk.new ≡ D.disk_faults desk.old }
     ensures say { result ≡ Err Halt.Say → Rose (D.say_faults desk.old) (D.say_faults desk.new) }
     ensures say_kept { (result ≡ Err Halt.Say → ⊥) → D.say_faults desk.new ≡ D.say_faults desk.old }
-    ensures input { result ≡ Err Halt.Input →
-        Rose (S.faults script.old) (S.faults script.new) ⊎ Rose (F.faults shelf.old) (F.faults shelf.new) }
-    ensures script_kept { (result ≡ Err Halt.Input → ⊥) → S.faults script.new ≡ S.faults script.old }
-    ensures files_kept { (result ≡ Err Halt.Input → ⊥) → F.faults shelf.new ≡ F.faults shelf.old }
-    ensures ended { (functions : Text) → asked_by (map string_bytes words.now) ≡ Some (run_form functions) → OnOk result (S.ended script.new ≡ true) }
+    ensures files { result ≡ Err Halt.Files → Rose (F.faults shelf.old) (F.faults shelf.new) }
+    ensures files_kept { (result ≡ Err Halt.Files → ⊥) → F.faults shelf.new ≡ F.faults shelf.old }
+    ensures script { result ≡ Err Halt.Script → Rose (S.faults script.old) (S.faults script.new) }
+    ensures script_kept { (result ≡ Err Halt.Script → ⊥) → S.faults script.new ≡ S.faults script.old }
+    ensures ended { (functions : Text) → asked_by (map string_bytes words.now) ≡ Some (run_form functions) →
+        OnOk result (S.ended script.new ≡ true) }
 {
     let line = match read(alloc, words) {
         Ok(Some(line)) => line,
@@ -63,6 +88,7 @@ fn command<D: Desk, S: Source, F: Shelf>(
     };
     match line.command {
         Command::Run { functions } => run(alloc, functions, desk, script, shelf),
+        Command::Recover { functions, turns } => recover(alloc, functions, turns, desk, shelf),
         Command::Check { functions } => check(alloc, functions, desk, shelf),
         _ => Err(Halt::Usage),
     }
@@ -70,7 +96,8 @@ fn command<D: Desk, S: Source, F: Shelf>(
 
 // Says the last line, and tells the status.
 fn end<D: Desk>(alloc: Global, desk: &mut D, halt: Halt) -> u8
-    ensures says { (result ≡ 3) ⊎ (result ≡ 5) ⊎ ((result ≡ status_of halt) × (D.said desk.new ≡ told_push (D.said desk.old) (last_line halt))) }
+    ensures closes { (IsSilent halt result × (desk.new ≡ desk.old))
+        ⊎ SaysLast D.image D.may_leave D.moment D.reach D.said D.asked desk.old desk.new halt result }
     ensures image { D.image desk.new ≡ D.image desk.old }
     ensures disk_faults { D.disk_faults desk.new ≡ D.disk_faults desk.old }
     ensures status { (result ≡ 3) ⊎ (result ≡ 5) ⊎ (result ≡ status_of halt) }
@@ -92,15 +119,20 @@ fn end<D: Desk>(alloc: Global, desk: &mut D, halt: Halt) -> u8
 
 /// Runs the command that the words say, with everything outside handed in, and tells the exit status.
 ///
+/// The words are read first, then the function file, then the store; then the program is compared, and then the work
+/// is done.
+///
 /// | status | when |
 /// |---|---|
 /// | 0 | the command is done; of `run`, the script has ended and each of its lines was answered |
 /// | 2 | the words are no command |
 /// | 3 | there was no memory |
-/// | 4, 5, 6 | the disk, the output, or the script or function file has failed |
+/// | 4, 5 | the disk or the output has failed |
+/// | 6 | the function file or the script can't be read |
 /// | 7 | the function file is refused |
+/// | 8 | the store's file is no store |
+/// | 9 | the store was begun with another program |
 /// | 10 | the function file has more than 2^20 bytes, or the script more than 2^26 |
-/// | 12 | the store's file has more than 9 bytes |
 pub fn top<D: Desk, S: Source, F: Shelf>(
     alloc: Global,
     words: &[String],
@@ -110,30 +142,69 @@ pub fn top<D: Desk, S: Source, F: Shelf>(
 ) -> u8
     requires { NothingPending (D.image desk.old) (D.may_leave desk.old) }
 
-    // The headline: what is said and what is stored are those of the run, unless something has failed.
-    ensures runs { (functions text image lines : Text) → asked_by (map string_bytes words.now) ≡ Some (run_form functions) →
-        F.text_of shelf.old functions ≡ Some text → D.image desk.old ≡ Some image → S.left script.old ≡ Some lines →
-        IsFault result ⊎ ((e : End) × Reaches (λ items. run_store text items image lines) text e × Ends e
-        (D.said desk.old) (D.image desk.old) (D.said desk.new) (D.image desk.new) result) }
+    // The headline: what is said, asked and stored is the machine's, unless there is no memory or the disk or the
+    // output has failed.
+    ensures runs { (functions text : Text) → asked_by (map string_bytes words.now) ≡ Some (run_form functions) →
+        F.text_of shelf.old functions ≡ Some text →
+        IsFault result ⊎ EndsAs (RunComes D.image D.may_leave D.moment D.reach D.said D.asked desk.old desk.new
+        (S.left script.old) (S.left script.new) text) result }
+    ensures recovers { (functions text : Text) (turns : ℕ) →
+        asked_by (map string_bytes words.now) ≡ Some (recover_form functions turns) →
+        F.text_of shelf.old functions ≡ Some text →
+        IsFault result ⊎ EndsAs (RecoverComes D.image D.may_leave D.moment D.reach D.said D.asked desk.old desk.new turns text) result }
     ensures checks { (functions text : Text) → asked_by (map string_bytes words.now) ≡ Some (check_form functions) →
         F.text_of shelf.old functions ≡ Some text →
-        IsFault result ⊎ ((e : End) × Reaches counts_told text e × Ends e
-        (D.said desk.old) (D.image desk.old) (D.said desk.new) (D.image desk.new) result) }
+        IsFault result ⊎ EndsAs (CheckComes D.image D.said D.asked desk.old desk.new text) result }
+    ensures opens_no_store { (functions : Text) → asked_by (map string_bytes words.now) ≡ Some (check_form functions) →
+        (D.image desk.new ≡ D.image desk.old) × (D.disk_faults desk.new ≡ D.disk_faults desk.old) }
     ensures no_command { asked_by (map string_bytes words.now) ≡ None →
-        (D.image desk.new ≡ D.image desk.old) × (IsFault result ⊎
-        ((result ≡ 2) × (D.said desk.new ≡ told_push (D.said desk.old) (last_line halts.Usage)))) }
+        (D.image desk.new ≡ D.image desk.old) × (IsFault result
+        ⊎ ((result ≡ 2) × Says D.image D.said D.asked desk.old desk.new (last_line halts.Usage))) }
+
+    // However it ends on a store of this program, a crash at any moment leaves a prefix of the machine's history with
+    // all that was acknowledged.
+    ensures run_goes { (functions text image lines : Text) (h : List Entry) →
+        asked_by (map string_bytes words.now) ≡ Some (run_form functions) →
+        F.text_of shelf.old functions ≡ Some text → D.image desk.old ≡ Some image → S.left script.old ≡ Some lines →
+        IsHistoryOf h image → HasProgram h text →
+        RunGoes D.image D.may_leave D.moment D.reach D.said D.asked desk.old desk.new text h lines }
+    ensures recover_goes { (functions text image : Text) (turns : ℕ) (h : List Entry) →
+        asked_by (map string_bytes words.now) ≡ Some (recover_form functions turns) →
+        F.text_of shelf.old functions ≡ Some text → D.image desk.old ≡ Some image →
+        IsHistoryOf h image → HasProgram h text →
+        RecoverGoes D.image D.may_leave D.moment D.reach D.said D.asked desk.old desk.new text h turns }
+
+    // Where nothing stands in the way and nothing fails, the command is done, or there is no memory.
+    ensures completes { (form : Form) (path text : Text) → asked_by (map string_bytes words.now) ≡ Some form →
+        file_of form ≡ Some path → F.text_of shelf.old path ≡ Some text → IsTaken text →
+        HasStore form text (D.image desk.old) → HasScript form (S.left script.old) →
+        (Rose (D.disk_faults desk.old) (D.disk_faults desk.new) → ⊥) → (Rose (D.say_faults desk.old) (D.say_faults desk.new) → ⊥) →
+        (Rose (S.faults script.old) (S.faults script.new) → ⊥) → (Rose (F.faults shelf.old) (F.faults shelf.new) → ⊥) →
+        (result ≡ 0) ⊎ (result ≡ 3) }
 
     // Each status has its cause.
-    ensures usage { result ≡ 2 → asked_by (map string_bytes words.now) ≡ None }
     ensures done { result ≡ 0 → (D.disk_faults desk.new ≡ D.disk_faults desk.old)
         × (D.say_faults desk.new ≡ D.say_faults desk.old) × (S.faults script.new ≡ S.faults script.old)
         × (F.faults shelf.new ≡ F.faults shelf.old) }
     ensures ended { (functions : Text) → asked_by (map string_bytes words.now) ≡ Some (run_form functions) →
         result ≡ 0 → S.ended script.new ≡ true }
+    ensures usage { result ≡ 2 → asked_by (map string_bytes words.now) ≡ None }
     ensures disk { result ≡ 4 → Rose (D.disk_faults desk.old) (D.disk_faults desk.new) }
     ensures say { result ≡ 5 → Rose (D.say_faults desk.old) (D.say_faults desk.new) }
     ensures input { result ≡ 6 →
         Rose (S.faults script.old) (S.faults script.new) ⊎ Rose (F.faults shelf.old) (F.faults shelf.new) }
+    ensures functions { (form : Form) (path text : Text) → asked_by (map string_bytes words.now) ≡ Some form →
+        file_of form ≡ Some path → F.text_of shelf.old path ≡ Some text →
+        result ≡ 7 → (fault : FunctionsFault) × IsRefused text fault }
+    ensures store { (form : Form) (path text : Text) → asked_by (map string_bytes words.now) ≡ Some form →
+        file_of form ≡ Some path → F.text_of shelf.old path ≡ Some text →
+        result ≡ 8 → (entry : ℕ) × IsNoStore (D.image desk.old) entry }
+    ensures program { (form : Form) (path text : Text) → asked_by (map string_bytes words.now) ≡ Some form →
+        file_of form ≡ Some path → F.text_of shelf.old path ≡ Some text →
+        result ≡ 9 → IsOthers text (D.image desk.old) }
+    ensures long { (form : Form) (path text : Text) → asked_by (map string_bytes words.now) ≡ Some form →
+        file_of form ≡ Some path → F.text_of shelf.old path ≡ Some text →
+        result ≡ 10 → (2 ^ 20 < length text) ⊎ ForSome (S.left script.old) (λ lines. 2 ^ 26 < length lines) }
 {
     match command(alloc, words, desk, script, shelf) {
         Ok(()) => 0,

@@ -1,27 +1,58 @@
-use Rattle.std.proofs.Common.{◌≡◌, ◌⊎◌, ℕ, List, Some, None, inl, inr, ⊎_elim, refl}
-use Rattle.fn_tree.specs.declared.program.Item.{Item}
-use Rattle.r3_load.specs.Texts.{Text}
-use Rattle.r3_cli.specs.Ends.{End, Reaches, counts_told, run_store}
-use Rattle.r3_cli.proofs.Running.{ends_ok, ends_err}
+use Rattle.std.proofs.Common.{inr, ⊎_elim, ℕ, None, refl, sym, ap, subst}
+use Rattle.std.specs.Prelude.{Result, Err}
+use Rattle.r3_desk.specs.Causes.{Rose}
+use Rattle.r3_cli.specs.declared.halt.Halt.{Halt}
+use Rattle.r3_cli.specs.declared.halt.Halt.TheVariants as halts
+use Rattle.r3_cli.proofs.Closing.{run-ends, recover-ends, run-goes, recover-goes}
+use Rattle.r3_cli.proofs.Causing.{store-cause, program-cause, long-cause, disk-cause, input-cause, no-form, err-same, completes}
 use Rattle.r3_cli.proofs.top.top.Goals as goal
 
-pub returns-in-Ok-clause-runs : goal.returns-in-Ok-clause-runs
-returns-in-Ok-clause-runs g c = λ functions text image lines at there is left.
-    let came = c.in-Ok.ensures.runs functions text image lines at there is left in
-    inr (came.0, came.1, ends_ok came.0 _ _ _ _ came.2)
+pub returns-in-Ok-clause-recovers : goal.returns-in-Ok-clause-recovers
+returns-in-Ok-clause-recovers g c = λ functions text turns at there. ⊎_elim (λ b. absurd b) (λ came. inr (None, refl, came)) (c.in-Ok.ensures.recovers functions text turns at there)
 
 pub returns-in-Err-clause-runs : goal.returns-in-Err-clause-runs
-returns-in-Err-clause-runs g c = λ functions text image lines at there is left.
-    ⊎_elim (λ three. inl (inl three))
-    (λ rest. ⊎_elim (λ five. inl (inr (inr (inl five))))
-    (λ says. ends_err (λ (e : End). Reaches (λ (items : List Item). run_store text items image lines) text e) _ _ (g.D.Desk.said c.command.new.desk) (g.D.Desk.image c.command.new.desk) _ _ _ c.in-Err.halt
-    (λ refusal. c.in-Err.ensures.run_halts functions text image lines c.in-Err.halt at there is left refl refusal) says c.end.ensures.image) rest)
-    c.end.ensures.says
+returns-in-Err-clause-runs g c = λ functions text at there.
+    run-ends g.D.Desk.image g.D.Desk.may_leave g.D.Desk.moment g.D.Desk.reach g.D.Desk.said g.D.Desk.asked c.args.desk.now c.command.new.desk c.end.new.desk c.end.result
+    (g.S.Source.left c.args.script.now) (g.S.Source.left c.command.new.script) text c.in-Err.halt c.end.ensures.closes (c.in-Err.ensures.runs functions text at there)
 
-pub returns-in-Err-clause-checks : goal.returns-in-Err-clause-checks
-returns-in-Err-clause-checks g c = λ functions text at there.
-    ⊎_elim (λ three. inl (inl three))
-    (λ rest. ⊎_elim (λ five. inl (inr (inr (inl five))))
-    (λ says. ends_err (λ (e : End). Reaches counts_told text e) _ _ (g.D.Desk.said c.command.new.desk) (g.D.Desk.image c.command.new.desk) _ _ _ c.in-Err.halt
-    (λ refusal. c.in-Err.ensures.check_halts functions text c.in-Err.halt at there refl refusal) says c.end.ensures.image) rest)
-    c.end.ensures.says
+pub returns-in-Err-clause-recovers : goal.returns-in-Err-clause-recovers
+returns-in-Err-clause-recovers g c = λ functions text turns at there.
+    recover-ends g.D.Desk.image g.D.Desk.may_leave g.D.Desk.moment g.D.Desk.reach g.D.Desk.said g.D.Desk.asked c.args.desk.now c.command.new.desk c.end.new.desk c.end.result
+    turns text c.in-Err.halt c.end.ensures.closes (c.in-Err.ensures.recovers functions text turns at there)
+
+pub returns-in-Err-clause-run_goes : goal.returns-in-Err-clause-run_goes
+returns-in-Err-clause-run_goes g c = λ functions text image lines h at there is left history has.
+    run-goes g.D.Desk.image g.D.Desk.may_leave g.D.Desk.moment g.D.Desk.reach g.D.Desk.said g.D.Desk.asked c.args.desk.now c.command.new.desk c.end.new.desk c.in-Err.halt c.end.result
+    text h lines c.end.ensures.closes (c.in-Err.ensures.run_goes functions text image lines h at there is left history has)
+
+pub returns-in-Err-clause-recover_goes : goal.returns-in-Err-clause-recover_goes
+returns-in-Err-clause-recover_goes g c = λ functions text image turns h at there is history has.
+    recover-goes g.D.Desk.image g.D.Desk.may_leave g.D.Desk.moment g.D.Desk.reach g.D.Desk.said g.D.Desk.asked c.args.desk.now c.command.new.desk c.end.new.desk c.in-Err.halt c.end.result
+    text h turns c.end.ensures.closes (c.in-Err.ensures.recover_goes functions text image turns h at there is history has)
+
+pub returns-in-Err-clause-completes : goal.returns-in-Err-clause-completes
+returns-in-Err-clause-completes g c = λ form path text at file there taken store script disk say source files.
+    let E : Halt → Result (Unit {0}) Halt = λ (h : Halt). Err h in
+    let rose-disk : Rose (g.D.Desk.disk_faults c.args.desk.now) (g.D.Desk.disk_faults c.command.new.desk) → Rose (g.D.Desk.disk_faults c.args.desk.now) (g.D.Desk.disk_faults c.end.new.desk) =
+    λ r. subst (λ (n : ℕ). Rose (g.D.Desk.disk_faults c.args.desk.now) n) (sym c.end.ensures.disk_faults) r in
+    completes text (g.D.Desk.image c.args.desk.now) (g.S.Source.left c.args.script.now) form c.end.result c.in-Err.halt c.end.ensures.status (c.in-Err.ensures.causes form path text at file there)
+    taken store script
+    (λ usage. no-form _ form at (c.in-Err.ensures.usage (ap E usage)))
+    (λ four. disk (rose-disk (c.in-Err.ensures.disk (ap E (disk-cause c.end.result c.in-Err.halt c.end.ensures.status four)))))
+    (λ five. say (⊎_elim
+    (λ said. subst (λ (n : ℕ). Rose (g.D.Desk.say_faults c.args.desk.now) n) (sym said.1) (c.in-Err.ensures.say (ap E said.0)))
+    (λ last. subst (λ (n : ℕ). Rose n (g.D.Desk.say_faults c.end.new.desk)) (c.in-Err.ensures.say_kept (λ e. last.0 (err-same c.in-Err.halt halts.Say e))) last.1)
+    (c.end.ensures.say five)))
+    (λ six. ⊎_elim (λ f. files (c.in-Err.ensures.files (ap E f))) (λ s. source (c.in-Err.ensures.script (ap E s))) (input-cause c.end.result c.in-Err.halt c.end.ensures.status six))
+
+pub returns-in-Err-clause-store : goal.returns-in-Err-clause-store
+returns-in-Err-clause-store g c = λ form path text at file there.
+    store-cause form text (g.D.Desk.image c.args.desk.now) (g.S.Source.left c.args.script.now) c.end.result c.in-Err.halt c.end.ensures.status (c.in-Err.ensures.causes form path text at file there)
+
+pub returns-in-Err-clause-program : goal.returns-in-Err-clause-program
+returns-in-Err-clause-program g c = λ form path text at file there.
+    program-cause form text (g.D.Desk.image c.args.desk.now) (g.S.Source.left c.args.script.now) c.end.result c.in-Err.halt c.end.ensures.status (c.in-Err.ensures.causes form path text at file there)
+
+pub returns-in-Err-clause-long : goal.returns-in-Err-clause-long
+returns-in-Err-clause-long g c = λ form path text at file there.
+    long-cause form text (g.D.Desk.image c.args.desk.now) (g.S.Source.left c.args.script.now) c.end.result c.in-Err.halt c.end.ensures.status (c.in-Err.ensures.causes form path text at file there)

@@ -1,4 +1,0 @@
-pub mod Texts
-pub mod Lines
-pub mod Loads
-pub mod Holds

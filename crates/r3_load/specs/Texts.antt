@@ -1,5 +1,0 @@
--- Texts as their bytes.
-use Rattle.std.specs.Prelude.{ℕ, List}
-
-abbrev pub Text : Type 0
-Text = List ℕ
