@@ -1,12 +1,11 @@
 -- The causes of each status.
-use Rattle.std.proofs.Common.{◌≡◌, ◌⊎◌, inl, inr, ⊎_elim, ℕ, ◌<◌, ◌≤◌, ◌^◌, List, length, Option, Some, None, refl, sym, ap, ◌∙◌, subst, arith}
+use Rattle.std.proofs.Common.{◌≡◌, ◌⊎◌, inl, inr, ⊎_elim, ℕ, ◌<◌, ◌^◌, length, Option, Some, None, refl, sym, ◌∙◌, arith}
 use Rattle.std.specs.Prelude.{Result, Err}
 use Rattle.std.specs.Option.{ForSome}
 use Rattle.r3_words.specs.Forms.{Form, run, recover, trace, replay, retro, check, gen}
 use Rattle.r3_model.specs.Language.{Text}
 use Rattle.r3_cli.specs.declared.functions.FunctionsFault.{FunctionsFault}
 use Rattle.r3_cli.specs.Functions.{IsRefused}
-use Rattle.r3_cli.specs.Commands.{file_of}
 use Rattle.r3_cli.specs.Statuses.{IsBroken, status_of}
 use Rattle.r3_cli.specs.Refusals.{IsFileRefusal, IsRefusal, IsNoStore, IsOthers}
 use Rattle.r3_cli.specs.Causes.{OnStore, HasCause, IsTaken, IsReady, HasStore, HasScript}

@@ -1,10 +1,7 @@
 -- A call with its last line.
-use Rattle.std.proofs.Common.{◌≡◌, ◌⊎◌, inl, inr, ⊎_elim, ℕ, zero, suc, ◌<◌, ◌≤◌, ◌^◌, List, [], ◌∷◌, ◌++◌, length, map, take, Option, Some, None, refl, sym, ap, ◌∙◌, subst, arith, append-nil, length-append}
-use Rattle.std.proofs.lemmas.List.{append_assoc}
-use Rattle.std.specs.Option.{ForSome}
+use Rattle.std.proofs.Common.{◌≡◌, ◌⊎◌, inl, inr, ⊎_elim, ℕ, ◌≤◌, ◌^◌, List, [], ◌++◌, length, map, take, Option, Some, None, refl, sym, ap, ◌∙◌, subst, arith, append-nil, length-append}
 use Rattle.fn_tree.specs.declared.program.Item.{Item}
 use Rattle.r3_entry.specs.declared.entry.Entry.{Entry}
-use Rattle.r3_entry.specs.Image.{IsHistoryOf}
 use Rattle.r3_desk.specs.Asked as desk
 use Rattle.r3_desk.specs.Crash.{Reach}
 use Rattle.r3_desk.specs.Disk.{told_len, told_push}
@@ -16,10 +13,9 @@ use Rattle.r3_exec.specs.Does.{told_after, told_of}
 use Rattle.r3_serve.specs.Served.{Loud, said_of}
 use Rattle.r3_serve.specs.Scripted.{ended_script_lines}
 use Rattle.r3_cli.specs.Statuses.{status_of, last_line, IsBroken, IsFault}
-use Rattle.r3_cli.specs.Refusals.{IsRefusal, IsFileRefusal}
-use Rattle.r3_cli.specs.Answered.{Says, Answered, LeavesPrefix}
-use Rattle.r3_cli.specs.Going.{Unbegun, IsCut, IsCutOff, NotBegun, RunGoes, RecoverGoes, GenGoes, Before}
-use Rattle.r3_cli.specs.Ends.{Comes, RunComes, RunWork, RecoverComes, RecoverWork, GenComes, CheckComes, EndsAs}
+use Rattle.r3_cli.specs.Answered.{Answered}
+use Rattle.r3_cli.specs.Going.{Unbegun, IsCut, IsCutOff, RunGoes, RecoverGoes, GenGoes, Before}
+use Rattle.r3_cli.specs.Ends.{Comes, RunComes, RunWork, RecoverComes, RecoverWork, GenComes, GenWork, CheckComes, EndsAs}
 use Rattle.r3_cli.specs.Closes.{SaysLast, IsSilent}
 use Rattle.r3_cli.specs.declared.halt.Halt.{Halt}
 use Rattle.r3_cli.specs.declared.halt.Halt.TheVariants as halts
@@ -244,7 +240,8 @@ module _ {D : Type 0} (image : D → Option Text) (may_leave : D → Text → Ty
   gen-ends number count text closes came = ends-as image may_leave moment reach said asked from mid now halt answer
       (GenComes image may_leave moment reach said asked from mid number count text) (GenComes image may_leave moment reach said asked from now number count text)
       (λ same old. subst (λ (d : D). GenComes image may_leave moment reach said asked from d number count text (Some halt) []) (sym same) old)
-      (comes-line image may_leave moment reach said asked from mid now halt answer text _ _ (λ items h last w. absurd w)) closes came
+      (comes-line image may_leave moment reach said asked from mid now halt answer text (GenWork image may_leave moment reach said asked from mid number count text) (GenWork image may_leave moment reach said asked from now number count text)
+      (λ items h last w. absurd w)) closes came
 
   pub gen-goes : (text : Text) (h : List Entry) (number count : ℕ) → Closes image may_leave moment reach said asked from mid now halt answer
       → Before (Unbegun image may_leave moment reach said asked from mid h []) ⊥

@@ -1,19 +1,18 @@
 -- What a crash leaves over two parts of a call.
-use Rattle.std.proofs.Common.{◌≡◌, ◌⊎◌, inl, inr, ⊎_elim, ℕ, ◌-◌, ◌≤◌, List, [], ◌++◌, length, Option, Some, None, refl, sym, ap, ◌∙◌, subst, arith}
-use Rattle.std.specs.Option.{ForSome}
+use Rattle.std.proofs.Common.{◌≡◌, inl, inr, ⊎_elim, ℕ, ◌≤◌, List, [], length, Option, Some, refl, sym, ◌∙◌, subst, arith}
 use Rattle.fn_tree.specs.declared.program.Item.{Item}
 use Rattle.r3_entry.specs.declared.entry.Entry.{Entry}
 use Rattle.r3_entry.specs.Image.{IsHistoryOf}
 use Rattle.r3_desk.specs.Asked as desk
-use Rattle.r3_desk.specs.Crash.{Reach, LeavesOnly, GoesOn, NothingPending}
+use Rattle.r3_desk.specs.Crash.{Reach, GoesOn, NothingPending}
 use Rattle.r3_desk.specs.Disk.{told_len}
 use Rattle.r3_desk.specs.Moments.{LeavesImage, started, elapses_then}
 use Rattle.r3_model.specs.Language.{Text}
 use Rattle.r3_model.specs.Held.{Mark}
 use Rattle.r3_model.specs.Functions.{language_of}
 use Rattle.r3_session.specs.Begun.{StopsOpening}
-use Rattle.r3_serve.specs.Held.{IsHeld, LeavesHeld}
-use Rattle.r3_cli.specs.Answered.{AreBetween, LeavesPrefix}
+use Rattle.r3_serve.specs.Held.{LeavesHeld}
+use Rattle.r3_cli.specs.Answered.{LeavesPrefix}
 use Rattle.r3_cli.specs.Functions.{IsAccepted}
 use Rattle.r3_cli.specs.Going.{Unbegun, NotBegun}
 use Rattle.r3_cli.specs.declared.halt.Halt.TheVariants as halts

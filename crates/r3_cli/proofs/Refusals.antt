@@ -1,5 +1,5 @@
 -- Texts that are refused.
-use Rattle.std.proofs.Common.{◌≡◌, ℕ, List, None, sym, subst}
+use Rattle.std.proofs.Common.{◌≡◌, ℕ, List, None, subst}
 use Rattle.std.specs.Prelude.{Result, Err}
 use Rattle.fn_lex.specs.declared.span.Token.{Token}
 use Rattle.fn_lex.specs.Lexed.{Lexed}

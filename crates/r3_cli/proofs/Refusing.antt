@@ -1,8 +1,7 @@
 -- Calls that are refused before their work.
-use Rattle.std.proofs.Common.{◌≡◌, ◌⊎◌, inl, inr, ⊎_elim, ℕ, ◌<◌, ◌≤◌, ◌^◌, List, [], length, Option, Some, None, refl, sym, ap, ◌∙◌, subst}
-use Rattle.std.specs.Prelude.{Result, Ok, Err, ⊤, IfErr}
+use Rattle.std.proofs.Common.{◌≡◌, ◌⊎◌, inl, inr, ⊎_elim, ℕ, ◌<◌, ◌≤◌, ◌^◌, List, length, Option, Some, sym, ◌∙◌, subst}
+use Rattle.std.specs.Prelude.{Result, Err}
 use Rattle.std.specs.Option.{ForSome}
-use Rattle.fn_tree.specs.declared.program.Item.{Item}
 use Rattle.r3_entry.specs.declared.entry.Entry.{Entry}
 use Rattle.r3_entry.specs.Image.{IsHistoryOf}
 use Rattle.r3_store.specs.declared.fault.OpenFault.{OpenFault}
@@ -13,9 +12,9 @@ use Rattle.r3_recover.specs.declared.ends.StartFault.TheVariants as starts
 use Rattle.r3_cli.specs.declared.functions.FunctionsFault.{FunctionsFault}
 use Rattle.r3_cli.specs.declared.halt.Halt.{Halt}
 use Rattle.r3_cli.specs.declared.halt.Halt.TheVariants as halts
-use Rattle.r3_cli.specs.Functions.{IsAccepted, IsRefused}
+use Rattle.r3_cli.specs.Functions.{IsRefused}
 use Rattle.r3_cli.specs.Statuses.{IsBroken, entry_of}
-use Rattle.r3_cli.specs.Refusals.{IsFile, IsFileRefusal, IsRefusal, IsNoStore}
+use Rattle.r3_cli.specs.Refusals.{IsFileRefusal, IsRefusal, IsNoStore}
 use Rattle.r3_cli.specs.Going.{Before}
 
 halt-same : {T : Type 0} (a b : Halt) → ◌≡◌ {A = Result T Halt} (Err a) (Err b) → a ≡ b

@@ -1,11 +1,9 @@
 -- What was said and asked over two parts of a call.
-use Rattle.std.proofs.Common.{◌≡◌, ℕ, List, [], ◌∷◌, ◌++◌, map, Option, Some, None, refl, sym, ap, ◌∙◌, append-nil}
+use Rattle.std.proofs.Common.{◌≡◌, List, [], ◌++◌, Option, Some, None, refl, sym, ap, ◌∙◌, append-nil}
 use Rattle.std.proofs.lemmas.List.{append_assoc}
 use Rattle.r3_desk.specs.Asked as desk
 use Rattle.r3_desk.specs.Disk.{told_push}
 use Rattle.r3_model.specs.Language.{Text}
-use Rattle.r3_model.specs.Event.{Call}
-use Rattle.r3_exec.specs.Does.{told_after, told_of}
 use Rattle.r3_cli.specs.Answered.{Says}
 
 pub push-none : (said : Option Text) → told_push said [] ≡ said

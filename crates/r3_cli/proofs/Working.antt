@@ -1,7 +1,6 @@
 -- Lines that were answered, and what that makes of a call.
-use Rattle.std.proofs.Common.{◌≡◌, ◌⊎◌, inl, inr, ⊎_elim, ℕ, ◌<◌, ◌≤◌, ◌^◌, List, [], ◌∷◌, ◌++◌, length, take, Option, Some, None, refl, sym, ap, ◌∙◌, subst, arith, append-nil}
+use Rattle.std.proofs.Common.{◌≡◌, inl, inr, ⊎_elim, ℕ, List, [], ◌∷◌, length, take, Option, Some, refl, sym, ap, ◌∙◌, subst, append-nil}
 use Rattle.std.specs.Option.{ForSome}
-use Rattle.std.specs.Io.KnownBytes.{Consumes}
 use Rattle.fn_tree.specs.declared.program.Item.{Item}
 use Rattle.r3_entry.specs.declared.entry.Entry.{Entry}
 use Rattle.r3_entry.specs.Image.{IsHistoryOf}
@@ -15,8 +14,7 @@ use Rattle.r3_model.specs.Language.{Text}
 use Rattle.r3_model.specs.Script.{Line}
 use Rattle.r3_exec.specs.declared.exec.Exec.{Exec}
 use Rattle.r3_serve.specs.Served.{Loud, Served, Stopped, said_of}
-use Rattle.r3_serve.specs.Scripted.{StoppedIn, script_lines, ended_script_lines}
-use Rattle.r3_cli.specs.Functions.{IsAccepted}
+use Rattle.r3_serve.specs.Scripted.{StoppedIn, script_lines}
 use Rattle.r3_cli.specs.Answered.{Answered}
 use Rattle.r3_cli.specs.Going.{Within}
 use Rattle.r3_cli.proofs.Leaving.{leaves-held}

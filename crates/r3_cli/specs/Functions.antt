@@ -1,5 +1,5 @@
 -- Which texts are function files, and what a text is refused for.
-use Rattle.std.specs.Prelude.{◌≡◌, ℕ, List, Option, Some, None}
+use Rattle.std.specs.Prelude.{◌≡◌, ℕ, List, Some, None}
 use Rattle.serde_json.specs.Data.{Data, number, unsigned, string, object, member, no_members}
 use Rattle.std.specs.Prelude.{codes}
 use Rattle.fn_lex.specs.declared.span.Token.{Token}

@@ -1,5 +1,5 @@
 -- The status and the last line of a call that is halted.
-use Rattle.std.specs.Prelude.{◌≡◌, ◌⊎◌, ℕ, List, [], Option, Some, None, ⊤, codes}
+use Rattle.std.specs.Prelude.{◌≡◌, ◌⊎◌, ℕ, [], Option, Some, None, ⊤, codes}
 use Rattle.serde_json.specs.Data.{Data, number, unsigned, string, object, member, no_members}
 use Rattle.r3_json.specs.Lines as json
 use Rattle.r3_store.specs.declared.fault.OpenFault.{OpenFault}

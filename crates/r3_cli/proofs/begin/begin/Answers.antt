@@ -1,6 +1,5 @@
-use Rattle.std.proofs.Common.{rules, ◌≡◌, ◌⊎◌, inl, inr, ⊎_elim, ◌≤◌, ◌^◌, List, length, string_bytes, refl, sym, ap, ◌∙◌, subst}
+use Rattle.std.proofs.Common.{rules, ◌≡◌, inr, ◌≤◌, ◌^◌, List, length, string_bytes, sym, ◌∙◌, subst}
 use Rattle.fn_tree.specs.declared.program.Item.{Item}
-use Rattle.r3_entry.specs.declared.entry.Entry.{Entry}
 use Rattle.r3_model.specs.Language.{Text}
 use Rattle.r3_recover.specs.Opened.{HasProgram}
 use Rattle.r3_serve.specs.Served.{Loud}

@@ -1,10 +1,9 @@
-use Rattle.std.proofs.Common.{◌≡◌, ◌⊎◌, inl, inr, ◌≤◌, ◌^◌, List, length, refl, sym, ap, ◌∙◌, subst}
+use Rattle.std.proofs.Common.{inl, inr, refl, sym, subst}
 use Rattle.r3_model.specs.Language.{Text}
-use Rattle.r3_recover.specs.declared.ends.StartFault.{StartFault}
 use Rattle.r3_gen.specs.declared.fault.GenFault.TheVariants as gens
 use Rattle.r3_recover.specs.declared.ends.StartFault.TheVariants as starts
 use Rattle.r3_cli.specs.Functions.{IsAccepted, IsRefused}
-use Rattle.r3_cli.specs.Refusals.{IsFile, IsNoStore, IsOthers}
+use Rattle.r3_cli.specs.Refusals.{IsNoStore, IsOthers}
 use Rattle.r3_cli.proofs.Saying.{says-same}
 use Rattle.r3_cli.proofs.Leaving.{unbegun-first, not-begun, opening}
 use Rattle.r3_cli.proofs.Refusing.{Opening-of, at-accept, nothing-done, no-store, store-is-taken}

@@ -1,9 +1,9 @@
-use Rattle.std.proofs.Common.{◌≡◌, ◌⊎◌, inl, inr, List, [], ◌∷◌, Option, Some, None, refl, sym, ap, ◌∙◌, subst}
+use Rattle.std.proofs.Common.{inl, inr, [], ◌∷◌, None, subst}
 use Rattle.r3_model.specs.Language.{Text}
 use Rattle.r3_model.specs.Script.{Drain}
 use Rattle.r3_cli.specs.Ends.{RecoverComes}
 use Rattle.r3_cli.proofs.Refusing.{before-more}
-use Rattle.r3_cli.proofs.Working.{same-text, same-history}
+use Rattle.r3_cli.proofs.Working.{same-history}
 use Rattle.r3_cli.proofs.Running.{carry, drained, goes-all, goes-first, GoesWithin}
 use Rattle.r3_cli.proofs.run.recover.Goals as goal
 

@@ -1,4 +1,4 @@
-use Rattle.std.proofs.Common.{rules, ◌≡◌, ◌⊎◌, inl, inr, List, [], Option, Some, None, refl, sym, ap, ◌∙◌, subst}
+use Rattle.std.proofs.Common.{rules, ◌≡◌, inl, inr, [], Some, None, subst}
 use Rattle.std.specs.Prelude.{Result, Err}
 use Rattle.r3_serve.specs.declared.fault.ScriptStop.{ScriptStop}
 use Rattle.r3_serve.specs.declared.fault.ScriptStop.TheVariants as stops
@@ -6,9 +6,9 @@ use Rattle.r3_serve.specs.Scripted.{script_lines}
 use Rattle.r3_model.specs.Language.{Text}
 use Rattle.r3_cli.specs.Ends.{RunComes}
 use Rattle.r3_cli.specs.declared.halt.Halt.TheVariants as halts
-use Rattle.r3_cli.specs.Going.{IsCutOff, RunGoes}
+use Rattle.r3_cli.specs.Going.{IsCutOff}
 use Rattle.r3_cli.proofs.Refusing.{before-more}
-use Rattle.r3_cli.proofs.Working.{same-text, same-history}
+use Rattle.r3_cli.proofs.Working.{same-history}
 use Rattle.r3_cli.proofs.Running.{carry, all-lines, too-long, source-failed, goes-all, goes-within, goes-cut, GoesWithin}
 use Rattle.r3_cli.proofs.run.run.Goals as goal
 

@@ -1,5 +1,6 @@
-use Rattle.std.proofs.Common.{rules, ◌≡◌, ℕ, List, [], Option, Some, inl, sym, subst}
+use Rattle.std.proofs.Common.{rules, ◌≡◌, ℕ, [], Some, inl, sym, subst}
 use Rattle.r3_model.specs.Language.{Text}
+use Rattle.r3_gen.specs.declared.bank.TheConstants.{BANK}
 use Rattle.r3_cli.specs.Going.{RecoverGoes, GenGoes, Before, Unbegun}
 use Rattle.r3_cli.specs.Ends.{end_of}
 use Rattle.r3_cli.proofs.Leaving.{unbegun-first, not-begun}
@@ -32,6 +33,16 @@ returns-in-Recover-clause-recover_goes g c = λ functions text image turns h at 
 
 pub returns-in-Err-clause-gen_goes : goal.returns-in-Err-clause-gen_goes
 returns-in-Err-clause-gen_goes g c = λ number count image h at is history has.
-    inl (not-begun g.D.Desk.image g.D.Desk.may_leave g.D.Desk.moment g.D.Desk.reach g.D.Desk.said g.D.Desk.asked c.args.desk.now c.args.desk.now _ h
+    inl (not-begun g.D.Desk.image g.D.Desk.may_leave g.D.Desk.moment g.D.Desk.reach g.D.Desk.said g.D.Desk.asked c.args.desk.now c.args.desk.now BANK.now h
     (unbegun-first g.D.Desk.image g.D.Desk.may_leave g.D.Desk.moment g.D.Desk.reach g.D.Desk.said g.D.Desk.asked c.args.desk.now h image
     (g.met.D.Desk.counts_now c.args.desk.now) (g.met.D.Desk.only_now c.args.desk.now) c.requires is history))
+
+pub returns-in-Gen-clause-gen_goes : goal.returns-in-Gen-clause-gen_goes
+returns-in-Gen-clause-gen_goes g c = λ number count image h at is history has.
+    let first : c.in-Gen.number ≡ number = search (rules, at) in
+    let many : c.in-Gen.count ≡ count = search (rules, at) in
+    subst (λ (n : ℕ). Before (Unbegun g.D.Desk.image g.D.Desk.may_leave g.D.Desk.moment g.D.Desk.reach g.D.Desk.said g.D.Desk.asked c.args.desk.now c.generate.new.desk h []) ⊥
+    (GenGoes g.D.Desk.image g.D.Desk.may_leave g.D.Desk.moment g.D.Desk.reach g.D.Desk.said g.D.Desk.asked c.args.desk.now c.generate.new.desk BANK.now h n count) (end_of c.generate.result)) first
+    (subst (λ (n : ℕ). Before (Unbegun g.D.Desk.image g.D.Desk.may_leave g.D.Desk.moment g.D.Desk.reach g.D.Desk.said g.D.Desk.asked c.args.desk.now c.generate.new.desk h []) ⊥
+    (GenGoes g.D.Desk.image g.D.Desk.may_leave g.D.Desk.moment g.D.Desk.reach g.D.Desk.said g.D.Desk.asked c.args.desk.now c.generate.new.desk BANK.now h c.in-Gen.number n) (end_of c.generate.result)) many
+    (c.generate.ensures.goes image h is history has))

@@ -1,4 +1,4 @@
-use Rattle.std.proofs.Common.{rules, inl, inr, take, drop, refl, sym, ap, ◌∙◌}
+use Rattle.std.proofs.Common.{rules, inr, take, drop, refl, ◌∙◌}
 use Rattle.std.proofs.lemmas.List.{take-append-drop}
 use Rattle.r3_cli.proofs.top.end.Goals as goal
 

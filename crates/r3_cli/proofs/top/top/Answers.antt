@@ -1,11 +1,12 @@
-use Rattle.std.proofs.Common.{◌≡◌, ◌⊎◌, inl, inr, ⊎_elim, ℕ, None, refl, sym, ap, ◌∙◌, subst}
+use Rattle.std.proofs.Common.{inr, ⊎_elim, ℕ, None, refl, sym, ap, subst}
 use Rattle.std.specs.Prelude.{Result, Err}
 use Rattle.r3_desk.specs.Causes.{Rose}
 use Rattle.r3_cli.specs.declared.halt.Halt.{Halt}
 use Rattle.r3_cli.specs.declared.halt.Halt.TheVariants as halts
-use Rattle.r3_cli.proofs.Closing.{run-ends, recover-ends, check-ends, gen-ends, run-goes, recover-goes, gen-goes}
-use Rattle.r3_cli.proofs.Causing.{functions-cause, store-cause, program-cause, long-cause, disk-cause, input-cause, no-form, err-same, completes}
 use Rattle.r3_words.specs.Forms.{gen}
+use Rattle.r3_gen.specs.declared.bank.TheConstants.{BANK}
+use Rattle.r3_cli.proofs.Closing.{run-ends, recover-ends, gen-ends, run-goes, recover-goes, gen-goes}
+use Rattle.r3_cli.proofs.Causing.{functions-cause, store-cause, program-cause, long-cause, disk-cause, input-cause, no-form, err-same, completes}
 use Rattle.r3_cli.proofs.Unread.{not-input, not-long}
 use Rattle.r3_cli.proofs.top.top.Goals as goal
 
@@ -65,19 +66,19 @@ returns-in-Ok-clause-generates g c = λ number count at. ⊎_elim (λ b. absurd 
 pub returns-in-Err-clause-generates : goal.returns-in-Err-clause-generates
 returns-in-Err-clause-generates g c = λ number count at.
     gen-ends g.D.Desk.image g.D.Desk.may_leave g.D.Desk.moment g.D.Desk.reach g.D.Desk.said g.D.Desk.asked c.args.desk.now c.command.new.desk c.end.new.desk c.in-Err.halt c.end.result
-    number count _ c.end.ensures.closes (c.in-Err.ensures.generates number count at)
+    number count BANK.now c.end.ensures.closes (c.in-Err.ensures.generates number count at)
 
 pub returns-in-Err-clause-gen_goes : goal.returns-in-Err-clause-gen_goes
 returns-in-Err-clause-gen_goes g c = λ number count image h at is history has.
     gen-goes g.D.Desk.image g.D.Desk.may_leave g.D.Desk.moment g.D.Desk.reach g.D.Desk.said g.D.Desk.asked c.args.desk.now c.command.new.desk c.end.new.desk c.in-Err.halt c.end.result
-    _ h number count c.end.ensures.closes (c.in-Err.ensures.gen_goes number count image h at is history has)
+    BANK.now h number count c.end.ensures.closes (c.in-Err.ensures.gen_goes number count image h at is history has)
 
 pub returns-in-Err-clause-gen_completes : goal.returns-in-Err-clause-gen_completes
 returns-in-Err-clause-gen_completes g c = λ number count at taken ready disk say.
     let E : Halt → Result (Unit {0}) Halt = λ (h : Halt). Err h in
     let rose-disk : Rose (g.D.Desk.disk_faults c.args.desk.now) (g.D.Desk.disk_faults c.command.new.desk) → Rose (g.D.Desk.disk_faults c.args.desk.now) (g.D.Desk.disk_faults c.end.new.desk) =
     λ r. subst (λ (n : ℕ). Rose (g.D.Desk.disk_faults c.args.desk.now) n) (sym c.end.ensures.disk_faults) r in
-    completes _ (g.D.Desk.image c.args.desk.now) (g.S.Source.left c.args.script.now) (gen number count) c.end.result c.in-Err.halt c.end.ensures.status (c.in-Err.ensures.gen_causes number count at)
+    completes BANK.now (g.D.Desk.image c.args.desk.now) (g.S.Source.left c.args.script.now) (gen number count) c.end.result c.in-Err.halt c.end.ensures.status (c.in-Err.ensures.gen_causes number count at)
     taken ready tt
     (λ usage. no-form _ (gen number count) at (c.in-Err.ensures.usage (ap E usage)))
     (λ four. disk (rose-disk (c.in-Err.ensures.disk (ap E (disk-cause c.end.result c.in-Err.halt c.end.ensures.status four)))))
@@ -89,15 +90,15 @@ returns-in-Err-clause-gen_completes g c = λ number count at taken ready disk sa
 
 pub returns-in-Err-clause-gen_functions : goal.returns-in-Err-clause-gen_functions
 returns-in-Err-clause-gen_functions g c = λ number count at.
-    functions-cause (gen number count) _ (g.D.Desk.image c.args.desk.now) (g.S.Source.left c.args.script.now) c.end.result c.in-Err.halt c.end.ensures.status (c.in-Err.ensures.gen_causes number count at)
+    functions-cause (gen number count) BANK.now (g.D.Desk.image c.args.desk.now) (g.S.Source.left c.args.script.now) c.end.result c.in-Err.halt c.end.ensures.status (c.in-Err.ensures.gen_causes number count at)
 
 pub returns-in-Err-clause-gen_store : goal.returns-in-Err-clause-gen_store
 returns-in-Err-clause-gen_store g c = λ number count at.
-    store-cause (gen number count) _ (g.D.Desk.image c.args.desk.now) (g.S.Source.left c.args.script.now) c.end.result c.in-Err.halt c.end.ensures.status (c.in-Err.ensures.gen_causes number count at)
+    store-cause (gen number count) BANK.now (g.D.Desk.image c.args.desk.now) (g.S.Source.left c.args.script.now) c.end.result c.in-Err.halt c.end.ensures.status (c.in-Err.ensures.gen_causes number count at)
 
 pub returns-in-Err-clause-gen_program : goal.returns-in-Err-clause-gen_program
 returns-in-Err-clause-gen_program g c = λ number count at.
-    program-cause (gen number count) _ (g.D.Desk.image c.args.desk.now) (g.S.Source.left c.args.script.now) c.end.result c.in-Err.halt c.end.ensures.status (c.in-Err.ensures.gen_causes number count at)
+    program-cause (gen number count) BANK.now (g.D.Desk.image c.args.desk.now) (g.S.Source.left c.args.script.now) c.end.result c.in-Err.halt c.end.ensures.status (c.in-Err.ensures.gen_causes number count at)
 
 pub returns-in-Err-clause-gen_reads_none : goal.returns-in-Err-clause-gen_reads_none
 returns-in-Err-clause-gen_reads_none g c = λ number count at.
