@@ -59,8 +59,8 @@ pub gen-not-this : (image : Option Text) (text : Text) (start : StartFault) → 
 gen-not-this image text start at opens caused =
     let cause : HasCause image text starts.Other = subst (λ (x : StartFault). HasCause image text x) at caused in
     λ i there.
-        let x = cause i there in
-        ((x.0, x.1), λ h history has. gen-is-taken image text i h start at opens there history has)
+    let x = cause i there in
+    ((x.0, x.1), λ h history has. gen-is-taken image text i h start at opens there history has)
 
 -- what comes behind an opening
 abbrev pub IsLater : GenFault → Type 0
@@ -108,9 +108,12 @@ module _ {D : Type 0} (size : D → Option ℕ) (image : D → Option Text) (may
   within-unsaid : Reads → Settles → (from now : D) (exec : Exec) (text : Text) (h : List Entry) (lines : List Line)
       → StoppedAmong size image may_leave moment reach said asked from now exec text h [] lines
       → WithinUnsaid image may_leave moment reach said asked from now (language_of exec.program) text h lines
-  within-unsaid reads crash from now exec text h lines s =
-      (s.done, s.later, s.of_lines,
-      ⊎_elim (λ all. inl (unsaid reads crash from now exec text h s.done all)) (λ part. inr part) s.state)
+  within-unsaid reads crash from now exec text h lines s = (
+    s.done,
+    s.later,
+    s.of_lines,
+    ⊎_elim (λ all. inl (unsaid reads crash from now exec text h s.done all)) (λ part. inr part) s.state,
+  )
 
   -- it has ended early
   pub gen-early : Reads → Settles → (from now : D) (exec : Exec) (text : Text) (h k : List Entry) (number count : ℕ) (items : List Item)

@@ -135,7 +135,7 @@ fn end<D: Desk>(alloc: Global, desk: &mut D, halt: Halt) -> u8
 /// Runs the command that the words say, with everything outside handed in, and tells the exit status.
 ///
 /// The words are read first, then the function file, then the store; then the program is compared, and then the work
-/// is done.
+/// is done. The functions of `gen` are `BANK`, and it reads no file but the store.
 ///
 /// | status | when |
 /// |---|---|

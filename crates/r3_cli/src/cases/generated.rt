@@ -11,20 +11,36 @@ const ONE: &[&str] = &["s", "gen", "7", "1"];
 fn transfers_keep_the_sum(rt: HostRuntime) -> Result<(), Fail> {
     let left = left_by(rt.alloc(), GEN, b"", b"", b"", &NONE)?;
     assert_eq!(rt; left.status, 0);
-    assert_eq!(rt; left.said.as_slice(), b"{\"entries\":62,\"success\":20,\"sum\":64000}\n".as_slice());
+    assert_eq!(rt;
+        left.said.as_slice(),
+        b"{\"entries\":62,\"success\":20,\"sum\":64000}\n".as_slice()
+    );
     // The accounts are loaded anew, and each start repeats one.
     let again = left_by(rt.alloc(), GEN, left.desk.image(), b"", b"", &NONE)?;
     assert_eq!(rt; again.status, 0);
-    assert_eq!(rt; again.said.as_slice(), b"{\"entries\":63,\"success\":20,\"sum\":64000}\n".as_slice());
+    assert_eq!(rt;
+        again.said.as_slice(),
+        b"{\"entries\":63,\"success\":20,\"sum\":64000}\n".as_slice()
+    );
     Ok(())
 }
 
 #[test]
 fn a_store_of_other_functions_is_refused(rt: HostRuntime) -> Result<(), Fail> {
     let other = left_by(rt.alloc(), RUN, b"", TINY.as_bytes(), b"", &NONE)?;
-    let left = left_by(rt.alloc(), GEN, other.desk.image(), TINY.as_bytes(), b"", &NONE)?;
+    let left = left_by(
+        rt.alloc(),
+        GEN,
+        other.desk.image(),
+        TINY.as_bytes(),
+        b"",
+        &NONE,
+    )?;
     assert_eq!(rt; left.status, 9);
-    assert_eq!(rt; left.said.as_slice(), b"{\"fault\":\"program\"}\n".as_slice());
+    assert_eq!(rt;
+        left.said.as_slice(),
+        b"{\"fault\":\"program\"}\n".as_slice()
+    );
     assert_eq!(rt; left.desk.image(), other.desk.image());
     Ok(())
 }
@@ -32,7 +48,10 @@ fn a_store_of_other_functions_is_refused(rt: HostRuntime) -> Result<(), Fail> {
 #[test]
 fn the_summary_is_said_last_of_all(rt: HostRuntime) -> Result<(), Fail> {
     let whole = left_by(rt.alloc(), ONE, b"", b"", b"", &NONE)?;
-    assert_eq!(rt; whole.said.as_slice(), b"{\"entries\":5,\"success\":1,\"sum\":64000}\n".as_slice());
+    assert_eq!(rt;
+        whole.said.as_slice(),
+        b"{\"entries\":5,\"success\":1,\"sum\":64000}\n".as_slice()
+    );
     for call in 1..=whole.desk.moment() {
         let fails = Fails { desk: call, ..NONE };
         let left = left_by(rt.alloc(), ONE, b"", b"", b"", &fails)?;
