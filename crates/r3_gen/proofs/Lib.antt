@@ -1,0 +1,4 @@
+mod Counting
+mod Generating
+mod Saying
+mod Starting
