@@ -41,6 +41,19 @@ pub own : (answer : ℕ) (halt : Halt) → Answers answer halt → (answer ≡ 3
 own answer halt is three five = ⊎_elim (λ t. absurd (three t)) (λ rest. ⊎_elim (λ f. absurd (five f)) (λ s. s) rest) is
 
 module _ (form : Form) (text : Text) (image left : Option Text) (answer : ℕ) where
+  functions-of : (halt : Halt) → 7 ≡ status_of halt → HasCause form text image left halt → (fault : FunctionsFault) × IsRefused text fault
+  functions-of halts.Usage is c = absurd (omega (arith, is))
+  functions-of halts.Memory is c = absurd (omega (arith, is))
+  functions-of halts.Disk is c = absurd (omega (arith, is))
+  functions-of halts.Say is c = absurd (omega (arith, is))
+  functions-of halts.Files is c = absurd (omega (arith, is))
+  functions-of halts.Script is c = absurd (omega (arith, is))
+  functions-of (halts.Functions f) is c = (f, c)
+  functions-of (halts.Store e) is c = absurd (omega (arith, is))
+  functions-of halts.Program is c = absurd (omega (arith, is))
+  functions-of halts.LongFile is c = absurd (omega (arith, is))
+  functions-of halts.LongScript is c = absurd (omega (arith, is))
+
   store-of : (halt : Halt) → 8 ≡ status_of halt → HasCause form text image left halt → (entry : ℕ) × IsNoStore image entry
   store-of halts.Usage is c = absurd (omega (arith, is))
   store-of halts.Memory is c = absurd (omega (arith, is))
@@ -79,6 +92,9 @@ module _ (form : Form) (text : Text) (image left : Option Text) (answer : ℕ) w
   long-of halts.Program is c = absurd (omega (arith, is))
   long-of halts.LongFile is c = inl c
   long-of halts.LongScript is c = inr (long-script form text image left c)
+
+  pub functions-cause : (halt : Halt) → Answers answer halt → HasCause form text image left halt → answer ≡ 7 → (fault : FunctionsFault) × IsRefused text fault
+  functions-cause halt is c at = functions-of halt (sym at ∙ own answer halt is (λ t. omega (arith, at, t)) (λ f. omega (arith, at, f))) c
 
   pub store-cause : (halt : Halt) → Answers answer halt → HasCause form text image left halt → answer ≡ 8 → (entry : ℕ) × IsNoStore image entry
   store-cause halt is c at = store-of halt (sym at ∙ own answer halt is (λ t. omega (arith, at, t)) (λ f. omega (arith, at, f))) c
