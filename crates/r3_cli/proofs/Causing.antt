@@ -12,49 +12,6 @@ use Rattle.r3_cli.specs.Causes.{OnStore, HasCause, IsTaken, IsReady, HasStore, H
 use Rattle.r3_cli.specs.declared.halt.Halt.{Halt}
 use Rattle.r3_cli.specs.declared.halt.Halt.TheVariants as halts
 
--- ---- of a refusal
-
--- of the function file alone
-pub file-cause : (form : Form) (text : Text) (image left : Option Text) (halt : Halt) → IsBroken (Some halt) ⊎ IsFileRefusal text (Some halt) → HasCause form text image left halt
-file-cause form text image left halts.Usage r = tt
-file-cause form text image left halts.Memory r = tt
-file-cause form text image left halts.Disk r = tt
-file-cause form text image left halts.Say r = tt
-file-cause form text image left halts.Files r = tt
-file-cause form text image left halts.Script r = tt
-file-cause form text image left (halts.Functions f) r = ⊎_elim (λ b. absurd b) (λ x. x.1) r
-file-cause form text image left (halts.Store e) r = ⊎_elim (λ b. absurd b) (λ x. absurd x) r
-file-cause form text image left halts.Program r = ⊎_elim (λ b. absurd b) (λ x. absurd x) r
-file-cause form text image left halts.LongFile r = ⊎_elim (λ b. absurd b) (λ x. x) r
-file-cause form text image left halts.LongScript r = ⊎_elim (λ b. absurd b) (λ x. absurd x) r
-
--- of a command that opens the store
-pub run-cause : (functions text : Text) (image left : Option Text) (S : Type 0) (halt : Halt) → IsBroken (Some halt) ⊎ (IsRefusal text image (Some halt) × S) → HasCause (run functions) text image left halt
-run-cause functions text image left S halts.Usage r = tt
-run-cause functions text image left S halts.Memory r = tt
-run-cause functions text image left S halts.Disk r = tt
-run-cause functions text image left S halts.Say r = tt
-run-cause functions text image left S halts.Files r = tt
-run-cause functions text image left S halts.Script r = tt
-run-cause functions text image left S (halts.Functions f) r = ⊎_elim (λ b. absurd b) (λ x. x.0.1) r
-run-cause functions text image left S (halts.Store e) r = ⊎_elim (λ b. absurd b) (λ x. x.0.1) r
-run-cause functions text image left S halts.Program r = ⊎_elim (λ b. absurd b) (λ x. x.0.1) r
-run-cause functions text image left S halts.LongFile r = ⊎_elim (λ b. absurd b) (λ x. x.0) r
-run-cause functions text image left S halts.LongScript r = ⊎_elim (λ b. absurd b) (λ x. absurd x.0) r
-
-pub recover-cause : (functions : Text) (turns : ℕ) (text : Text) (image left : Option Text) (S : Type 0) (halt : Halt) → IsBroken (Some halt) ⊎ (IsRefusal text image (Some halt) × S) → HasCause (recover functions turns) text image left halt
-recover-cause functions turns text image left S halts.Usage r = tt
-recover-cause functions turns text image left S halts.Memory r = tt
-recover-cause functions turns text image left S halts.Disk r = tt
-recover-cause functions turns text image left S halts.Say r = tt
-recover-cause functions turns text image left S halts.Files r = tt
-recover-cause functions turns text image left S halts.Script r = tt
-recover-cause functions turns text image left S (halts.Functions f) r = ⊎_elim (λ b. absurd b) (λ x. x.0.1) r
-recover-cause functions turns text image left S (halts.Store e) r = ⊎_elim (λ b. absurd b) (λ x. x.0.1) r
-recover-cause functions turns text image left S halts.Program r = ⊎_elim (λ b. absurd b) (λ x. x.0.1) r
-recover-cause functions turns text image left S halts.LongFile r = ⊎_elim (λ b. absurd b) (λ x. x.0) r
-recover-cause functions turns text image left S halts.LongScript r = ⊎_elim (λ b. absurd b) (λ x. absurd x.0) r
-
 -- ---- of a status
 
 on-store : (form : Form) (A : Type 0) → OnStore form A → A
@@ -84,19 +41,6 @@ pub own : (answer : ℕ) (halt : Halt) → Answers answer halt → (answer ≡ 3
 own answer halt is three five = ⊎_elim (λ t. absurd (three t)) (λ rest. ⊎_elim (λ f. absurd (five f)) (λ s. s) rest) is
 
 module _ (form : Form) (text : Text) (image left : Option Text) (answer : ℕ) where
-  functions-of : (halt : Halt) → 7 ≡ status_of halt → HasCause form text image left halt → (fault : FunctionsFault) × IsRefused text fault
-  functions-of halts.Usage is c = absurd (omega (arith, is))
-  functions-of halts.Memory is c = absurd (omega (arith, is))
-  functions-of halts.Disk is c = absurd (omega (arith, is))
-  functions-of halts.Say is c = absurd (omega (arith, is))
-  functions-of halts.Files is c = absurd (omega (arith, is))
-  functions-of halts.Script is c = absurd (omega (arith, is))
-  functions-of (halts.Functions f) is c = (f, c)
-  functions-of (halts.Store e) is c = absurd (omega (arith, is))
-  functions-of halts.Program is c = absurd (omega (arith, is))
-  functions-of halts.LongFile is c = absurd (omega (arith, is))
-  functions-of halts.LongScript is c = absurd (omega (arith, is))
-
   store-of : (halt : Halt) → 8 ≡ status_of halt → HasCause form text image left halt → (entry : ℕ) × IsNoStore image entry
   store-of halts.Usage is c = absurd (omega (arith, is))
   store-of halts.Memory is c = absurd (omega (arith, is))
@@ -135,9 +79,6 @@ module _ (form : Form) (text : Text) (image left : Option Text) (answer : ℕ) w
   long-of halts.Program is c = absurd (omega (arith, is))
   long-of halts.LongFile is c = inl c
   long-of halts.LongScript is c = inr (long-script form text image left c)
-
-  pub functions-cause : (halt : Halt) → Answers answer halt → HasCause form text image left halt → answer ≡ 7 → (fault : FunctionsFault) × IsRefused text fault
-  functions-cause halt is c at = functions-of halt (sym at ∙ own answer halt is (λ t. omega (arith, at, t)) (λ f. omega (arith, at, f))) c
 
   pub store-cause : (halt : Halt) → Answers answer halt → HasCause form text image left halt → answer ≡ 8 → (entry : ℕ) × IsNoStore image entry
   store-cause halt is c at = store-of halt (sym at ∙ own answer halt is (λ t. omega (arith, at, t)) (λ f. omega (arith, at, f))) c

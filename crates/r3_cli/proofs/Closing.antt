@@ -131,15 +131,6 @@ module _ {D : Type 0} (image : D → Option Text) (may_leave : D → Text → Ty
       (comes-line image may_leave moment reach said asked from mid now halt answer text (RecoverWork image may_leave moment reach said asked from mid turns text) (RecoverWork image may_leave moment reach said asked from now turns text)
       (λ items h last w. absurd w)) closes came
 
-  pub check-ends : (text : Text) (halt : Halt) → Closes image may_leave moment reach said asked from mid now halt answer
-      → IsBroken (Some halt) ⊎ CheckComes image said asked from mid text (Some halt) []
-      → IsFault answer ⊎ EndsAs (CheckComes image said asked from now text) answer
-  check-ends text halt closes came = ends-as image may_leave moment reach said asked from mid now halt answer
-      (CheckComes image said asked from mid text) (CheckComes image said asked from now text)
-      (λ same old. subst (λ (d : D). CheckComes image said asked from d text (Some halt) []) (sym same) old)
-      (λ last old. ⊎_elim (λ refused. inl (refused.0, says-then image said asked from mid now [] last.line refused.1 last.says))
-      (λ counted. absurd (let e : ◌≡◌ {A = Option Halt} (Some halt) None = counted.2 in cc)) old) closes came
-
   -- ---- however it goes
 
   unbegun-line : (h : List Entry) (halt : Halt) → SaysLast image may_leave moment reach said asked mid now halt answer

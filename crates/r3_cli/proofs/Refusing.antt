@@ -46,25 +46,6 @@ at-accept text halt short which bad =
     ⊎_elim (λ m. subst B (sym (halt-same halt halts.Memory m)) (inl tt))
     (λ f. subst B (sym (halt-same halt (halts.Functions f.0) f.1)) (inr (short, bad f.0 f.1))) which
 
--- a refusal of the file is one of the call
-pub as-refusal : (text : Text) (image : Option Text) (halt : Halt) → IsFileRefusal text (Some halt) → IsRefusal text image (Some halt)
-as-refusal text image halts.Usage r = absurd r
-as-refusal text image halts.Memory r = absurd r
-as-refusal text image halts.Disk r = absurd r
-as-refusal text image halts.Say r = absurd r
-as-refusal text image halts.Files r = r
-as-refusal text image halts.Script r = absurd r
-as-refusal text image (halts.Functions f) r = r
-as-refusal text image (halts.Store e) r = absurd r
-as-refusal text image halts.Program r = absurd r
-as-refusal text image halts.LongFile r = r
-as-refusal text image halts.LongScript r = absurd r
-
--- what was said beside it
-pub file-refused : (text : Text) (image : Option Text) (halt : Halt) (Said : Type 0) → Said → IsBroken (Some halt) ⊎ IsFileRefusal text (Some halt)
-    → IsBroken (Some halt) ⊎ (IsRefusal text image (Some halt) × Said)
-file-refused text image halt Said said r = ⊎_elim (λ b. inl b) (λ f. inr (as-refusal text image halt f, said)) r
-
 -- refused so, nothing was done
 pub nothing-done : (Nothing Cut Goes : Type 0) (text : Text) (halt : Halt) → IsBroken (Some halt) ⊎ IsFileRefusal text (Some halt)
     → Nothing → (Nothing → Goes) → Before Nothing Cut Goes (Some halt)

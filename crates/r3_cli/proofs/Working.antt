@@ -23,10 +23,6 @@ take-all : (h : List Entry) → take (length h) h ≡ h
 take-all [] = refl
 take-all (e ∷ es) = ap (λ (xs : List Entry). e ∷ xs) (take-all es)
 
--- of two texts that a file is told to have
-pub same-text : (told : Option Text) (a b : Text) → ForSome told (λ t. a ≡ t) → told ≡ Some b → a ≡ b
-same-text told a b is there = is b there
-
 -- a history that the image stands for is the one
 pub same-history : ((image : Text) (h k : List Entry) → IsHistoryOf h image → IsHistoryOf k image → h ≡ k)
     → (told : Option Text) (image : Text) (h k : List Entry) → ForSome told (IsHistoryOf h) → told ≡ Some image → IsHistoryOf k image → h ≡ k

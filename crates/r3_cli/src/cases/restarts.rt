@@ -140,7 +140,7 @@ fn a_workflow_is_recovered_fifty_times(rt: HostRuntime) -> Result<(), Fail> {
     let start = b"{\"start\":\"w1\",\"fn\":\"wait\",\"args\":[\"w1\"]}\n{\"turn\":\"w1\"}\n";
     let first = left_by(rt.alloc(), RUN, b"", BANK.as_bytes(), start, &NONE)?;
     let mut image = first.desk.image().to_vec(rt.alloc())?;
-    for run in 1..=52 {
+    for run in 1..=52_u32 {
         let left = left_by(
             rt.alloc(),
             RUN,
