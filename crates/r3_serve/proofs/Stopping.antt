@@ -22,6 +22,7 @@ use Rattle.r3_session.specs.Answered.{StopsLine}
 use Rattle.r3_serve.specs.Held.{IsHeld, LeavesHeld}
 use Rattle.r3_serve.specs.Served.{Voice, Loud, said_of, marks_of, Served, Stopped}
 use Rattle.r3_serve.specs.Failed.{ReplyFailed}
+use Rattle.r3_serve.proofs.Owing.{AreWithin}
 use Rattle.r3_serve.proofs.Voices.{marks-more, marks-asked}
 use Rattle.r3_serve.proofs.Telling.{push-append, told-append}
 use Rattle.r3_serve.proofs.Calling.{Facts, facts, calls-more, part-grows, part-whole}
@@ -42,7 +43,7 @@ module _ {D : Type 0} (told_size : D → Option ℕ) (told_image : D → Option 
 
   pub stopped : OnlyAppends → DrainsByTurns → (from mid new : D) (exec : Exec) (v : Voice) (text : Text) (h : List Entry) (lines : List Line) (line : Line)
       → said new ≡ said mid → (s : ServedAt from mid exec v text h lines)
-      → StopsLine told_image moment reach said asked (language exec) mid new s.after line → StoppedAt from new (language exec) v text h lines line
+      → StopsLine told_image moment reach said asked syncs (language exec) mid new s.after line → StoppedAt from new (language exec) v text h lines line
   stopped appends drains from mid new exec v text h lines line same s t =
       let P : Language = language exec in
       let f : Facts h s.after s.calls s.marks s.replies = facts appends drains P text h lines s.after s.calls s.marks s.replies s.machine in
@@ -69,10 +70,10 @@ module _ {D : Type 0} (told_size : D → Option ℕ) (told_image : D → Option 
         leaves = subst (λ (ms : List Mark). LeavesHeld moment reach said asked from new t.after.history (length h) (marks_of v (s.marks ++ (t.marks ++ ms)))) none
             (leaves-line told_size told_image may_leave moment reach said asked syncs appends drains from mid new exec v text h lines s t.after grows.0 (t.calls ++ t.last) (t.marks ++ more) grows.1 same t.told t.leaves);
         reads = λ image told.
-            subst (λ (ms : List Mark). IsHeld t.after.history (length h) ms (length (said_of v s.replies)) (length (s.calls ++ t.calls)) image) (sym (marks-more v s.marks t.marks))
-            (held-kept s.after.history t.after.history (length h) (marks_of v s.marks) (marks_of v t.marks) (length (said_of v s.replies)) (length (s.calls ++ t.calls)) (length t.calls) image
-            sure.no_less sure.within sure.said (omega (arith, length-append s.calls t.calls, marks-asked v s.marks, f.asked))
-            (kept-voice v t.after.history (length s.after.history) t.marks (length t.calls) image (t.reads image told)));
+            subst (λ (ms : List Mark). IsHeld t.after.history (length h) ms (length (said_of v s.replies)) (length (s.calls ++ (t.calls ++ t.last))) image) (sym (marks-more v s.marks (t.marks ++ more)))
+            (held-kept s.after.history t.after.history (length h) (marks_of v s.marks) (marks_of v (t.marks ++ more)) (length (said_of v s.replies)) (length (s.calls ++ (t.calls ++ t.last))) (length (t.calls ++ t.last)) image
+            sure.no_less sure.within sure.said (omega (arith, length-append s.calls (t.calls ++ t.last), marks-asked v s.marks, f.asked))
+            (kept-voice v t.after.history (length s.after.history) (t.marks ++ more) (length (t.calls ++ t.last)) image (t.reads image told)));
         whole = λ some. absurd (some refl);
       }
 
@@ -111,7 +112,8 @@ module _ {D : Type 0} (told_size : D → Option ℕ) (told_image : D → Option 
         told = says ∙ ap (λ (o : Option Text). told_push o (take k out)) w.told ∙ push-append (said from) (said_of Loud w.replies) (take k out);
         asks = same ∙ w.asks ∙ ap (λ (cs : List Call). told_after (asked from) (w.calls ++ cs)) none;
         leaves = leaves-said told_size told_image may_leave moment reach said asked syncs crash from mid new exec text h lines line out (take k out) w says same pending goes;
-        reads = λ c told. held-all w.after.history (length h) (w.marks ++ w.made) (length (said_of Loud w.replies)) (length (w.calls ++ w.more)) c w.sure.no_less w.sure.within (all c told);
+        reads = λ c told. held-all w.after.history (length h) (w.marks ++ (w.made ++ [])) (length (said_of Loud w.replies)) (length (w.calls ++ (w.more ++ []))) c w.sure.no_less
+            (subst (λ (ms : List Mark). AreWithin (length w.after.history) (w.marks ++ ms)) (sym (append-nil w.made)) w.sure.within) (all c told);
         whole = λ some. all;
       })
 
