@@ -51,7 +51,7 @@ fn turn_next<D: Desk, L: Ledger>(
         MatchResult result
         (λ done. Point D.size D.image D.may_leave D.moment D.reach D.said D.asked D.syncs
         from desk.new exec.new st k turns (Turns ids) round.new.left round.new.changed)
-        (λ fault. EndsEarly D.image D.moment D.reach D.said D.asked (language exec.old) from desk.new st k turns) }
+        (λ fault. EndsEarly D.image D.moment D.reach D.said D.asked D.syncs (language exec.old) from desk.new st k turns) }
     ensures fewer { round.new.left ≤ round.old.left }
     ensures counted { OnOk result (round.new.left < round.old.left) }
     ensures program { exec.new.program ≡ exec.old.program }
@@ -93,7 +93,7 @@ pub fn turn_each<D: Desk, L: Ledger>(
         from desk.new exec.new st k turns (Turns []) round.new.left round.new.changed)
         × (all ≡ false → DoesDrain D.size D.image D.may_leave D.moment D.reach D.said D.asked D.syncs
         from desk.new exec.new st k turns (Spent turns)))
-        (λ fault. EndsEarly D.image D.moment D.reach D.said D.asked (language exec.old) from desk.new st k turns) }
+        (λ fault. EndsEarly D.image D.moment D.reach D.said D.asked D.syncs (language exec.old) from desk.new st k turns) }
     ensures fewer { round.new.left ≤ round.old.left }
     ensures counted { OnOk result (round.new.changed ≡ true → round.old.changed ≡ false → round.new.left < round.old.left) }
     ensures program { exec.new.program ≡ exec.old.program }
