@@ -1,4 +1,4 @@
-use Rattle.std.proofs.Common.{◌≡◌, Some, refl, sym, ap, ◌∙◌, subst}
+use Rattle.std.proofs.Common.{◌≡◌, Some, None, refl, sym, ap, ◌∙◌, subst}
 use Rattle.std.specs.Prelude.{T}
 use Rattle.std.specs.FinMap.{find}
 use Rattle.std.specs.FinMap.Entries.{is_sorted, is_sorted-where_key}
@@ -37,7 +37,7 @@ returns-in-Some-clause-due c = λ h begun snap keeps found long.
 pub returns-in-None-clause-due : goal.returns-in-None-clause-due
 returns-in-None-clause-due c = λ h begun snap keeps found long.
     let none = found_open c.args.self.now h begun c.args.id.now _ keeps c.in-None.ensures.value in
-    absurd (let e = sym found ∙ none in cc)
+    absurd (let wrong : Some snap ≡ None = sym found ∙ none in cc)
 
 pub returns-in-None-clause-closed : goal.returns-in-None-clause-closed
 returns-in-None-clause-closed c = λ h begun keeps.
