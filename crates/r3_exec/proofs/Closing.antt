@@ -1,7 +1,6 @@
--- A snapshot that is closed, and versions that are discarded.
-use Rattle.std.proofs.Common.{◌≡◌, ◌≤◌, ℕ, List, ◌∷◌, length, Option, Some, not, sym, ap, ◌∙◌, subst, arith}
-use Rattle.std.specs.Prelude.{T, bytes_eq}
-use Rattle.std.specs.Prelude.{Contains}
+-- A snapshot that is closed.
+use Rattle.std.proofs.Common.{◌≡◌, ◌≤◌, ℕ, List, ◌∷◌, length, Option, Some, not, sym, ap, ◌∙◌, subst}
+use Rattle.std.specs.Prelude.{T, Contains, bytes_eq}
 use Rattle.std.specs.List.Sorted.{IsPermutation}
 use Rattle.std.specs.Map.{lookup, remove_entry}
 use Rattle.std.specs.BTreeMap.{is_at}
@@ -16,7 +15,7 @@ use Rattle.sys_queue.specs.Index as queues
 use Rattle.sys_pending.specs.Index as pending
 use Rattle.r3_model.specs.Language.{Text}
 use Rattle.r3_model.specs.Machine.{Begun, closed}
-use Rattle.r3_exec.specs.Runs.{ArePinned, Keeps, rows_now}
+use Rattle.r3_exec.specs.Runs.{Keeps, rows_now}
 use Rattle.r3_exec.specs.declared.exec.Exec.{Exec}
 use Rattle.r3_exec.proofs.Begun.{is_pinned, one_less, removed}
 
@@ -48,19 +47,4 @@ released old new h begun id s keeps looked rest entries stands one = record {
   queues = subst (λ (x : Exec). queues.IsIndexOf x.queues (rows_now h)) (sym rest) keeps.queues;
   pending = subst (λ (x : Exec). pending.IsIndexOf x.pending (rows_now h)) (sym rest) keeps.pending;
   vacuumed = subst (λ (x : Exec). x.vacuumed ≤ length h) (sym rest) keeps.vacuumed;
-}
-
--- versions are discarded that no pinned snapshot reads
-pub discarded : (old new : Exec) (h : List Entry) (begun : Begun) → Keeps old h begun
-    → new ≡ record old { store = new.store; vacuumed = new.vacuumed }
-    → store.Stands new.store h → new.store.pins ≡ old.store.pins → new.vacuumed ≡ length h → Keeps new h begun
-discarded old new h begun keeps rest stands same now = record {
-  store = stands;
-  snapshots = ap (λ (x : Exec). x.begun.entries) rest ∙ keeps.snapshots;
-  in_order = keeps.in_order;
-  pins = subst (λ (ps : List ℕ). ArePinned ps begun) (sym same) keeps.pins;
-  declared = ap (λ (x : Exec). declared_of x.queues) rest ∙ keeps.declared ∙ ap (λ (x : Exec). declared_of (new_lines x.program)) (sym rest);
-  queues = subst (λ (x : Exec). queues.IsIndexOf x.queues (rows_now h)) (sym rest) keeps.queues;
-  pending = subst (λ (x : Exec). pending.IsIndexOf x.pending (rows_now h)) (sym rest) keeps.pending;
-  vacuumed = omega (arith, now);
 }

@@ -3,6 +3,7 @@ use Rattle.std.specs.Prelude.{T}
 use Rattle.std.specs.FinMap.{find}
 use Rattle.std.specs.FinMap.Entries.{is_sorted, is_sorted-where_key}
 use Rattle.r3_rows.specs.Keys.{bytes_cmp}
+use Rattle.r3_model.specs.Language.{Text}
 use Rattle.r3_model.specs.Machine.{Begun, closed}
 use Rattle.r3_chain.proofs.PutLemmas.{found_is}
 use Rattle.r3_exec.specs.Runs.{ArePinned}
