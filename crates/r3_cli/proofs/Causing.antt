@@ -1,12 +1,12 @@
 -- The causes of each status.
-use Rattle.std.proofs.Common.{◌≡◌, ◌⊎◌, inl, inr, ⊎_elim, ℕ, ◌<◌, ◌^◌, List, length, Option, Some, None, refl, sym, ◌∙◌, arith}
-use Rattle.std.specs.Prelude.{Result, Err}
+use Rattle.std.proofs.Common.{◌≡◌, ◌⊎◌, inl, inr, ⊎_elim, ℕ, ◌<◌, ◌^◌, List, length, Option, Some, None, refl, sym, ◌∙◌, subst, arith}
+use Rattle.std.specs.Prelude.{Result, Ok, Err}
 use Rattle.std.specs.Option.{ForSome}
 use Rattle.fn_tree.specs.declared.program.Item.{Item}
 use Rattle.r3_words.specs.Forms.{Form, run, recover, trace, replay, retro, check, gen}
 use Rattle.r3_model.specs.Language.{Text}
 use Rattle.r3_cli.specs.declared.functions.FunctionsFault.{FunctionsFault}
-use Rattle.r3_cli.specs.Commands.{OnStore, OnScript}
+use Rattle.r3_cli.specs.Commands.{OnStore, OnScript, file_of, functions_text}
 use Rattle.r3_cli.specs.Functions.{IsRefused}
 use Rattle.r3_cli.specs.Statuses.{status_of}
 use Rattle.r3_cli.specs.Refusals.{IsFunctionFile, IsNoStore, IsOthers}
@@ -143,6 +143,26 @@ input-cause answer halt is at = input-of halt (sym at ∙ own answer halt is (λ
 
 pub err-same : (a b : Halt) → ◌≡◌ {A = Result (Unit {0}) Halt} (Err a) (Err b) → a ≡ b
 err-same a b is = cc
+
+path-same : (a b : Text) → ◌≡◌ {A = Option Text} (Some a) (Some b) → a ≡ b
+path-same a b is = cc
+
+no-path : (path : Text) → ◌≡◌ {A = Option Text} None (Some path) → ⊥
+no-path path is = cc
+
+pub ok-halt : {T : Type 0} {x : T} {h : Halt} → ◌≡◌ {A = Result T Halt} (Ok x) (Err h) → ⊥
+ok-halt is = cc
+
+-- the text of the file that a command names is that of its functions
+pub file-text : (text_of : Text → Option Text) (bank : Text) (form : Form) (path text : Text) → file_of form ≡ Some path → text_of path ≡ Some text
+    → functions_text text_of bank form ≡ Some text
+file-text text_of bank (run functions) path text file there = subst (λ (p : Text). text_of p ≡ Some text) (sym (path-same functions path file)) there
+file-text text_of bank (recover functions turns) path text file there = subst (λ (p : Text). text_of p ≡ Some text) (sym (path-same functions path file)) there
+file-text text_of bank trace path text file there = absurd (no-path path file)
+file-text text_of bank (replay functions id) path text file there = absurd (no-path path file)
+file-text text_of bank (retro functions plan) path text file there = absurd (no-path path file)
+file-text text_of bank (check functions) path text file there = subst (λ (p : Text). text_of p ≡ Some text) (sym (path-same functions path file)) there
+file-text text_of bank (gen number count) path text file there = absurd (no-path path file)
 
 pub no-form : (told : Option Form) (form : Form) → told ≡ Some form → told ≡ None → ⊥
 no-form told form a b = let e : ◌≡◌ {A = Option Form} (Some form) None = sym a ∙ b in cc

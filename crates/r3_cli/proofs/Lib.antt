@@ -7,5 +7,6 @@ pub mod Refusing
 pub mod Causing
 pub mod Standing
 pub mod Closing
+pub mod Ordering
 pub mod Generating
 pub mod Unread

@@ -17,7 +17,7 @@ use Rattle.r3_cli.specs.declared.halt.Halt.{Halt}
 use Rattle.r3_cli.specs.declared.halt.Halt.TheVariants as halts
 use Rattle.r3_cli.specs.Functions.{IsAccepted, IsRefused}
 use Rattle.r3_cli.specs.Statuses.{IsBroken, entry_of}
-use Rattle.r3_cli.specs.Refusals.{EndsAtFile, IsEarly, IsRefusal, IsNoStore, IsOthers}
+use Rattle.r3_cli.specs.Refusals.{EndsAtFile, IsEarly, IsFile, IsRefusal, IsNoStore, IsOthers}
 use Rattle.r3_cli.specs.Causes.{HasCause, HasEarlyCause, IsBegun, IsReady}
 use Rattle.r3_cli.specs.Commands.{OnStore}
 use Rattle.r3_cli.specs.Answered.{Says}
@@ -34,7 +34,7 @@ halt-same a b is = cc
 abbrev pub Fetches : Type 0 → Halt → Type 0
 Fetches T halt = (◌≡◌ {A = Result T Halt} (Err halt) (Err halts.Memory)) ⊎ ((◌≡◌ {A = Result T Halt} (Err halt) (Err halts.Files)) ⊎ (◌≡◌ {A = Result T Halt} (Err halt) (Err halts.LongFile)))
 
-module _ {T : Type 0} (text : Text) (B : Halt → Type 0) where
+module _ {T : Type 0} (B : Halt → Type 0) where
   of-fetch : (halt : Halt) → Fetches T halt → B halts.Memory → B halts.Files → (◌≡◌ {A = Result T Halt} (Err halt) (Err halts.LongFile) → B halts.LongFile) → B halt
   of-fetch halt which memory files long = ⊎_elim (λ m. subst B (sym (halt-same halt halts.Memory m)) memory)
       (λ rest. ⊎_elim (λ f. subst B (sym (halt-same halt halts.Files f)) files)
@@ -42,17 +42,17 @@ module _ {T : Type 0} (text : Text) (B : Halt → Type 0) where
 
 pub at-fetch : {T : Type 0} (text : Text) (halt : Halt) → Fetches T halt → (◌≡◌ {A = Result T Halt} (Err halt) (Err halts.LongFile) → 2 ^ 20 < length text)
     → EndsAtFile text (Some halt)
-at-fetch {T} text halt which long = of-fetch {T} text (λ (x : Halt). EndsAtFile text (Some x)) halt which tt tt long
+at-fetch {T} text halt which long = of-fetch {T} (λ (x : Halt). EndsAtFile text (Some x)) halt which tt tt long
 
 pub cause-fetch : {T : Type 0} (text : Text) (image : Option Text) (halt : Halt) → Fetches T halt → (◌≡◌ {A = Result T Halt} (Err halt) (Err halts.LongFile) → 2 ^ 20 < length text)
     → HasEarlyCause text image (Some halt)
-cause-fetch {T} text image halt which long = of-fetch {T} text (λ (x : Halt). HasEarlyCause text image (Some x)) halt which tt tt long
+cause-fetch {T} text image halt which long = of-fetch {T} (λ (x : Halt). HasEarlyCause text image (Some x)) halt which tt tt long
 
 -- what accepting answers
 abbrev pub Accepts : Type 0 → Halt → Type 0
 Accepts T halt = (◌≡◌ {A = Result T Halt} (Err halt) (Err halts.Memory)) ⊎ ((fault : FunctionsFault) × (◌≡◌ {A = Result T Halt} (Err halt) (Err (halts.Functions fault))))
 
-module _ {T : Type 0} (text : Text) (B : Halt → Type 0) where
+module _ {T : Type 0} (B : Halt → Type 0) where
   of-accept : (halt : Halt) → Accepts T halt → B halts.Memory → ((fault : FunctionsFault) → ◌≡◌ {A = Result T Halt} (Err halt) (Err (halts.Functions fault)) → B (halts.Functions fault)) → B halt
   of-accept halt which memory refused = ⊎_elim (λ m. subst B (sym (halt-same halt halts.Memory m)) memory)
       (λ f. subst B (sym (halt-same halt (halts.Functions f.0) f.1)) (refused f.0 f.1)) which
@@ -60,13 +60,27 @@ module _ {T : Type 0} (text : Text) (B : Halt → Type 0) where
 pub at-accept : {T : Type 0} (text : Text) (halt : Halt) → length text ≤ 2 ^ 20 → Accepts T halt
     → ((fault : FunctionsFault) → ◌≡◌ {A = Result T Halt} (Err halt) (Err (halts.Functions fault)) → IsRefused text fault)
     → EndsAtFile text (Some halt)
-at-accept {T} text halt short which bad = of-accept {T} text (λ (x : Halt). EndsAtFile text (Some x)) halt which tt (λ f e. (short, bad f e))
+at-accept {T} text halt short which bad = of-accept {T} (λ (x : Halt). EndsAtFile text (Some x)) halt which tt (λ f e. (short, bad f e))
 
 pub cause-accept : {T : Type 0} (text : Text) (image : Option Text) (halt : Halt) → length text ≤ 2 ^ 20 → Accepts T halt
     → ((fault : FunctionsFault) → ◌≡◌ {A = Result T Halt} (Err halt) (Err (halts.Functions fault)) → IsRefused text fault)
     → ((fault : FunctionsFault) → ◌≡◌ {A = Result T Halt} (Err halt) (Err (halts.Functions fault)) → (items : List Item) → IsAccepted text items → ⊥)
     → HasEarlyCause text image (Some halt)
-cause-accept {T} text image halt short which bad none = of-accept {T} text (λ (x : Halt). HasEarlyCause text image (Some x)) halt which tt (λ f e. (short, bad f e, λ file. none f e file.0 file.1.1))
+cause-accept {T} text image halt short which bad none = of-accept {T} (λ (x : Halt). HasEarlyCause text image (Some x)) halt which tt (λ f e. (short, bad f e, λ file. none f e file.0 file.1.1))
+
+pub fetch-early : {T : Type 0} (halt : Halt) → Fetches T halt → IsEarly halt
+fetch-early {T} halt which = of-fetch {T} IsEarly halt which tt tt (λ l. tt)
+
+pub accept-early : {T : Type 0} (halt : Halt) → Accepts T halt → IsEarly halt
+accept-early {T} halt which = of-accept {T} IsEarly halt which tt (λ f e. tt)
+
+-- a function file that was fetched and taken
+pub is-file : (text fetched given : Text) (program : List Item) → fetched ≡ text → length fetched ≤ 2 ^ 20 → given ≡ fetched → IsAccepted given program → IsFile text program
+is-file text fetched given program same short value accepted =
+    (subst (λ (x : Text). length x ≤ 2 ^ 20) same short, subst (λ (x : Text). IsAccepted x program) (value ∙ same) accepted)
+
+pub no-fault-in : (text given : Text) → given ≡ text → ((fault : FunctionsFault) → IsRefused given fault → ⊥) → (fault : FunctionsFault) → IsRefused text fault → ⊥
+no-fault-in text given same none fault r = none fault (subst (λ (x : Text). IsRefused x fault) (sym same) r)
 
 -- what ends at the function file is refused for it, or there was no memory
 pub refused-at-file : (text : Text) (image : Option Text) (halt : Halt) → EndsAtFile text (Some halt) → IsBroken (Some halt) ⊎ IsRefusal text image (Some halt)

@@ -13,11 +13,13 @@ use Rattle.r3_model.specs.Functions.{language_of}
 use Rattle.r3_model.specs.Language.{Text}
 use Rattle.r3_model.specs.Script.{Line, Drain}
 use Rattle.r3_exec.specs.declared.exec.Exec.{Exec}
+use Rattle.r3_recover.specs.Opened.{HasProgram}
 use Rattle.r3_serve.specs.Served.{Loud, Served, Stopped}
 use Rattle.r3_serve.specs.Scripted.{StoppedIn, script_lines, ended_script_lines}
 use Rattle.r3_cli.specs.declared.halt.Halt.TheVariants as halts
 use Rattle.r3_cli.specs.Functions.{IsAccepted}
-use Rattle.r3_cli.specs.Refusals.{IsOpened}
+use Rattle.r3_cli.specs.Refusals.{IsFile, IsFunctionFile, IsOpened}
+use Rattle.r3_cli.specs.Causes.{IsBegun}
 use Rattle.r3_cli.specs.Answered.{Answered}
 use Rattle.r3_cli.specs.Going.{Within}
 use Rattle.r3_cli.specs.Ends.{RunComes, RecoverComes}
@@ -33,6 +35,14 @@ ok-err x e is = cc
 of-err : {T E P : Type 0} (result : Result T E) (fault : E) → result ≡ Err fault → OnErr result P → P
 of-err (Ok x) fault is p = absurd (ok-err x fault is)
 of-err (Err e) fault is p = p
+
+-- ---- what was opened
+
+pub opened-file : (text text' : Text) (image : Option Text) (items : List Item) (h : List Entry) → text' ≡ text → IsOpened text' image items h → IsFunctionFile text
+opened-file text text' image items h same o = (items, subst (λ (t : Text). IsFile t items) same o.file)
+
+pub opened-begun : (text text' : Text) (image : Option Text) (items : List Item) (h : List Entry) → text' ≡ text → IsOpened text' image items h → IsBegun text image
+opened-begun text text' image items h same o = λ i there. (h, o.history i there, subst (λ (t : Text). HasProgram h t) same o.program)
 
 opened-now : (text : Text) (image : Option Text) (items now : List Item) (h : List Entry) → now ≡ items → IsOpened text image items h → IsOpened text image now h
 opened-now text image items now h same o = subst (λ (is : List Item). IsOpened text image is h) (sym same) o

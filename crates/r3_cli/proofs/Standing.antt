@@ -236,6 +236,11 @@ module _ (form : Form) (text image script : Text) where
             (λ r2. ⊎_elim (λ s. let five : answer ≡ 5 = status-at answer halt halts.Say s own in inr (inr (inl (five, say five))))
             (λ r3. let six : answer ≡ 6 = ⊎_elim (λ f. status-at answer halt halts.Files f own) (λ s. status-at answer halt halts.Script s own) r3 in inr (inr (inr (six, input six)))) r2) r1) f
 
+pub cause-told : (form : Form) (text : Text) (told left : Option Text) (image script : Text) (end : Option Halt) → told ≡ Some image → left ≡ Some script
+    → HasCause form text told left end → HasCause form text (Some image) (Some script) end
+cause-told form text told left image script end a b c =
+    subst (λ (x : Option Text). HasCause form text x (Some script) end) a (subst (λ (x : Option Text). HasCause form text told x end) b c)
+
 -- ---- each status is known
 
 pub known : (answer : ℕ) (halt : Halt) → Answers answer halt → IsStatus answer
