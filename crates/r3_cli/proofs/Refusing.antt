@@ -192,6 +192,20 @@ ends-early told said asked from now text halt r early quiet = ends-at-store told
 
 -- ---- the causes of what ends before the work
 
+-- of a function file that isn't taken
+pub cause-at-file : (form : Form) (text : Text) (image left : Option Text) (halt : Halt) → EndsAtFile text (Some halt) → HasEarlyCause text image (Some halt) → HasCause form text image left (Some halt)
+cause-at-file form text image left halts.Usage e c = absurd e
+cause-at-file form text image left halts.Memory e c = c
+cause-at-file form text image left halts.Disk e c = absurd e
+cause-at-file form text image left halts.Say e c = absurd e
+cause-at-file form text image left halts.Files e c = c
+cause-at-file form text image left halts.Script e c = absurd e
+cause-at-file form text image left (halts.Functions x) e c = c
+cause-at-file form text image left (halts.Store x) e c = absurd e
+cause-at-file form text image left halts.Program e c = absurd e
+cause-at-file form text image left halts.LongFile e c = c
+cause-at-file form text image left halts.LongScript e c = absurd e
+
 store-of : (form : Form) (A : Type 0) → OnStore form ⊤ → A → OnStore form A
 store-of (run functions) A on a = a
 store-of (recover functions turns) A on a = a
