@@ -194,22 +194,22 @@ module _ (form : Form) (text image script : Text) where
   stood-none : HasCause form text (Some image) (Some script) None → Stood None
   stood-none c = (sure_nothing c.0 (if-ready form c.1) (if-short form c.2), refl, (c.0.0, if-ready form c.1, if-short form c.2))
 
-  -- what is failed for, or what stood first in the way
-  abbrev Failed : Type 0 → Type 0 → Type 0 → Halt → Type 0
-  Failed Disk Say Input halt = (halt ≡ halts.Memory) ⊎ ((halt ≡ halts.Disk) ⊎ ((halt ≡ halts.Say) ⊎ ((halt ≡ halts.Files) ⊎ (halt ≡ halts.Script))))
+  -- something has failed, or there was no memory
+  abbrev HasStopped : Halt → Type 0
+  HasStopped halt = (halt ≡ halts.Memory) ⊎ ((halt ≡ halts.Disk) ⊎ ((halt ≡ halts.Say) ⊎ ((halt ≡ halts.Files) ⊎ (halt ≡ halts.Script))))
 
-  stood : (Disk Say Input : Type 0) (halt : Halt) → (halt ≡ halts.Usage → ⊥) → HasCause form text (Some image) (Some script) (Some halt) → Failed Disk Say Input halt ⊎ Stood (Some halt)
-  stood D S I halts.Usage u c = absurd (u refl)
-  stood D S I halts.Memory u c = inl (inl refl)
-  stood D S I halts.Disk u c = inl (inr (inl refl))
-  stood D S I halts.Say u c = inl (inr (inr (inl refl)))
-  stood D S I halts.Files u c = inl (inr (inr (inr (inl refl))))
-  stood D S I halts.Script u c = inl (inr (inr (inr (inr refl))))
-  stood D S I (halts.Functions f) u c = inr (sure_refused f c.0 c.1 c.2, refl, (c.0, c.1))
-  stood D S I (halts.Store e) u c = inr (sure_none e c.0 c.1, refl, (c.0.0, c.1))
-  stood D S I halts.Program u c = inr (sure_others c.0 c.1, refl, (c.0.0, c.1))
-  stood D S I halts.LongFile u c = inr (sure_long c, refl, c)
-  stood D S I halts.LongScript u c = inr (sure_cut c.0 (on-ready form c.1) (on-long form c.2), refl, (c.0.0, on-ready form c.1, on-long form c.2))
+  stood : (halt : Halt) → (halt ≡ halts.Usage → ⊥) → HasCause form text (Some image) (Some script) (Some halt) → HasStopped halt ⊎ Stood (Some halt)
+  stood halts.Usage u c = absurd (u refl)
+  stood halts.Memory u c = inl (inl refl)
+  stood halts.Disk u c = inl (inr (inl refl))
+  stood halts.Say u c = inl (inr (inr (inl refl)))
+  stood halts.Files u c = inl (inr (inr (inr (inl refl))))
+  stood halts.Script u c = inl (inr (inr (inr (inr refl))))
+  stood (halts.Functions f) u c = inr (sure_refused f c.0 c.1 c.2, refl, (c.0, c.1))
+  stood (halts.Store e) u c = inr (sure_none e c.0 c.1, refl, (c.0.0, c.1))
+  stood halts.Program u c = inr (sure_others c.0 c.1, refl, (c.0.0, c.1))
+  stood halts.LongFile u c = inr (sure_long c, refl, c)
+  stood halts.LongScript u c = inr (sure_cut c.0 (on-ready form c.1) (on-long form c.2), refl, (c.0.0, on-ready form c.1, on-long form c.2))
 
   status-of : (Disk Say Input : Type 0) (answer : ℕ) (end : Option Halt) → answer ≡ status end → Stood end → IsStatusOf form text image script Disk Say Input answer
   status-of D S I answer end is s = record {
@@ -229,8 +229,8 @@ module _ (form : Form) (text image script : Text) where
   told-halted D S I answer halt is usage cause disk say input = ⊎_elim
       (λ three. failed D S I answer (inl three))
       (λ rest. ⊎_elim (λ five. failed D S I answer (inr (inr (inl (five, say five)))))
-      (λ own. ⊎_elim (λ f. failed D S I answer (fails own f)) (λ s. status-of D S I answer (Some halt) own s) (stood D S I halt usage cause)) rest) is where
-        fails : answer ≡ status_of halt → Failed D S I halt → HasFailed D S I answer
+      (λ own. ⊎_elim (λ f. failed D S I answer (fails own f)) (λ s. status-of D S I answer (Some halt) own s) (stood halt usage cause)) rest) is where
+        fails : answer ≡ status_of halt → HasStopped halt → HasFailed D S I answer
         fails own f = ⊎_elim (λ m. inl (status-at answer halt halts.Memory m own))
             (λ r1. ⊎_elim (λ d. let four : answer ≡ 4 = status-at answer halt halts.Disk d own in inr (inl (four, disk four)))
             (λ r2. ⊎_elim (λ s. let five : answer ≡ 5 = status-at answer halt halts.Say s own in inr (inr (inl (five, say five))))

@@ -62,7 +62,7 @@ fn program_of(alloc: Global, text: &[u8]) -> Result<Program, NoFunctions>
 pub fn functions_of(alloc: Global, text: &[u8]) -> Result<Checked, NoFunctions>
     requires { length text.now ≤ 2 ^ 20 }
 
-    // It is taken or refused, and never might be both.
+    // A text that is taken has no fault, and one that is refused is no function file.
     ensures accepted { IfOk result (λ p. IsAccepted text.now p) }
     ensures faultless { IfOk result (λ _. (fault : FunctionsFault) → IsRefused text.now fault → ⊥) }
     ensures refused { (fault : _) → result ≡ Err (NoFunctions.Refused fault) → IsRefused text.now fault }
