@@ -1,6 +1,5 @@
 use Rattle.std.proofs.Common.{◌≡◌, Some, None, not, refl, sym, ap, ◌∙◌, subst}
 use Rattle.std.specs.Prelude.{T, bytes_eq}
-use Rattle.std.specs.FinMap.{find}
 use Rattle.std.specs.FinMap.Entries.{is_sorted, is_sorted-where_key}
 use Rattle.r3_rows.specs.Keys.{bytes_cmp}
 use Rattle.r3_model.specs.Language.{Text}

@@ -1,4 +1,4 @@
-use Rattle.std.proofs.Common.{◌≡◌, ◌⊎◌, None, length, inl, refl, ◌∙◌, subst}
+use Rattle.std.proofs.Common.{◌≡◌, ◌⊎◌, None, inl, refl, ◌∙◌, subst}
 use Rattle.std.specs.Option.{ForSome}
 use Rattle.r3_entry.specs.Image.{IsHistoryOf}
 use Rattle.r3_model.specs.Event.{Turn}
