@@ -97,3 +97,13 @@ few-then a b c m n first second = (
   omega (arith, first.1, second.1),
   second.2 ∙ ap (λ (o : Option ℕ). option_map (λ k. k + second.0) o) first.2 ∙ syncs-twice a first.0 second.0,
 )
+
+pub few-by : (a b c : Option ℕ) (m n most : ℕ) → SyncsWithin a b m → SyncsWithin b c n → m + n ≤ most → SyncsWithin a c most
+few-by a b c m n most first second le = (
+  first.0 + second.0,
+  omega (arith, first.1, second.1, le),
+  second.2 ∙ ap (λ (o : Option ℕ). option_map (λ k. k + second.0) o) first.2 ∙ syncs-twice a first.0 second.0,
+)
+
+pub few-more : (a b : Option ℕ) (m most : ℕ) → SyncsWithin a b m → m ≤ most → SyncsWithin a b most
+few-more a b m most few le = (few.0, omega (arith, few.1, le), few.2)
