@@ -51,6 +51,7 @@ fn dequeue_next<D: Desk>(
     ensures fewer { round.new.left ≤ round.old.left }
     ensures counted { OnOk result (round.new.left < round.old.left) }
     ensures program { exec.new.program ≡ exec.old.program }
+    ensures syncs { D.syncs desk.new ≡ D.syncs desk.old }
     ensures disk { IsErrOf result ExecFault.Disk → Rose (D.disk_faults desk.old) (D.disk_faults desk.new) }
     ensures no_fault { (IsErrOf result ExecFault.Disk → ⊥) → D.disk_faults desk.new ≡ D.disk_faults desk.old }
     ensures ask_faults { D.ask_faults desk.new ≡ D.ask_faults desk.old }
@@ -91,6 +92,7 @@ pub fn dequeue_each<D: Desk>(
     ensures fewer { round.new.left ≤ round.old.left }
     ensures counted { OnOk result (round.new.changed ≡ true → round.old.changed ≡ false → round.new.left < round.old.left) }
     ensures program { exec.new.program ≡ exec.old.program }
+    ensures syncs { D.syncs desk.new ≡ D.syncs desk.old }
     ensures disk { IsErrOf result ExecFault.Disk → Rose (D.disk_faults desk.old) (D.disk_faults desk.new) }
     ensures no_fault { (IsErrOf result ExecFault.Disk → ⊥) → D.disk_faults desk.new ≡ D.disk_faults desk.old }
     ensures ask_faults { D.ask_faults desk.new ≡ D.ask_faults desk.old }

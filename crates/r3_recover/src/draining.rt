@@ -1,6 +1,6 @@
 //! Drains.
 
-ghost use Rattle.std.specs.Prelude.{◌≡◌, ◌*◌, ◌≤◌, ◌<◌, ℕ, [], map, None, Ok, false, true, IfOk, OnErr, IsErrOf, MatchOption, MatchResult};
+ghost use Rattle.std.specs.Prelude.{◌≡◌, ◌-◌, ◌*◌, ◌≤◌, ◌<◌, ℕ, [], map, None, Ok, false, true, IfOk, OnOk, OnErr, IsErrOf, MatchOption, MatchResult};
 ghost use Rattle.r3_desk.specs.Causes.{Rose};
 ghost use Rattle.r3_model.specs.Language.{Queue};
 ghost use Rattle.r3_model.specs.Machine.{State};
@@ -48,6 +48,8 @@ fn give_turns<D: Desk, L: Ledger>(
     ensures fewer { round.new.left ≤ round.old.left }
     ensures counted { result ≡ Ok None → round.old.changed ≡ false → round.new.left < round.old.left }
     ensures program { exec.new.program ≡ exec.old.program }
+    ensures few_syncs { SyncsWithin (D.syncs desk.old) (D.syncs desk.new) (2 * round.old.left) }
+    ensures counted_syncs { OnOk result (SyncsWithin (D.syncs desk.old) (D.syncs desk.new) (2 * (round.old.left - round.new.left))) }
     ensures disk { IsErrOf result ExecFault.Disk → Rose (D.disk_faults desk.old) (D.disk_faults desk.new) }
     ensures no_fault { (IsErrOf result ExecFault.Disk → ⊥) → D.disk_faults desk.new ≡ D.disk_faults desk.old }
     ensures ask_faults { (n : ℕ) × Raised n (D.ask_faults desk.old) (D.ask_faults desk.new) }
@@ -103,6 +105,8 @@ fn go_round<D: Desk, L: Ledger>(
         (λ fault. EndsEarly D.image D.moment D.reach D.said D.asked D.syncs (language exec.old) from desk.new st k turns) }
     ensures fewer { result ≡ Ok None → left.new < left.old }
     ensures program { exec.new.program ≡ exec.old.program }
+    ensures few_syncs { SyncsWithin (D.syncs desk.old) (D.syncs desk.new) (2 * left.old) }
+    ensures counted_syncs { OnOk result (SyncsWithin (D.syncs desk.old) (D.syncs desk.new) (2 * (left.old - left.new))) }
     ensures disk { IsErrOf result ExecFault.Disk → Rose (D.disk_faults desk.old) (D.disk_faults desk.new) }
     ensures no_fault { (IsErrOf result ExecFault.Disk → ⊥) → D.disk_faults desk.new ≡ D.disk_faults desk.old }
     ensures ask_faults { (n : ℕ) × Raised n (D.ask_faults desk.old) (D.ask_faults desk.new) }

@@ -1,5 +1,4 @@
-use Rattle.std.proofs.Common.{◌≡◌, List, [], ◌∷◌, ◌+◌, drop, refl, sym, subst, ap, ◌∙◌, arith}
-use Rattle.r3_entry.specs.declared.entry.Entry.{Entry}
+use Rattle.std.proofs.Common.{◌+◌, drop, refl, ◌∙◌, arith}
 use Rattle.r3_recover.specs.Recovering.{Recovers}
 use Rattle.r3_recover.proofs.Taking.{with-first, with-none}
 use Rattle.r3_recover.proofs.recovering.recover_each.Goals as goal
@@ -18,6 +17,7 @@ pub ids-init : goal.ids-init
 ids-init g c = record {
   goes = λ from h p. p;
   program = refl;
+  syncs = refl;
   disk = refl;
   ask = refl;
   said = refl;
@@ -34,6 +34,7 @@ ids-preserved g c =
           (with-first (λ left. Recovers g.D.Desk.size g.D.Desk.image g.D.Desk.may_leave g.D.Desk.moment g.D.Desk.reach g.D.Desk.said g.D.Desk.asked g.D.Desk.syncs from c.ids.desk c.ids.exec h left)
           c.args.ids.now c.ids.id-index c.id-item.result c.ids-test.true c.id-item.is (inv.goes from h p));
       program = c.in-Ok.ensures.program ∙ inv.program;
+      syncs = c.in-Ok.ensures.syncs ∙ inv.syncs;
       disk = c.in-Ok.ensures.no_fault (λ none. cc) ∙ inv.disk;
       ask = c.in-Ok.ensures.ask_faults ∙ inv.ask;
       said = c.in-Ok.ensures.said ∙ inv.said;
