@@ -3,7 +3,7 @@
 use super::{Fails, NONE, RUN, TINY, left_by};
 use std::test::Fail;
 
-const GEN: &[&str] = &["s", "gen", "7", "20"];
+const GEN: &[&str] = &["s", "gen", "7", "200"];
 
 const ONE: &[&str] = &["s", "gen", "7", "1"];
 
@@ -13,14 +13,14 @@ fn transfers_keep_the_sum(rt: HostRuntime) -> Result<(), Fail> {
     assert_eq!(rt; left.status, 0);
     assert_eq!(rt;
         left.said.as_slice(),
-        b"{\"entries\":62,\"success\":20,\"sum\":64000}\n".as_slice()
+        b"{\"entries\":602,\"success\":200,\"sum\":64000}\n".as_slice()
     );
     // The accounts are loaded anew, and each start repeats one.
     let again = left_by(rt.alloc(), GEN, left.desk.image(), b"", b"", &NONE)?;
     assert_eq!(rt; again.status, 0);
     assert_eq!(rt;
         again.said.as_slice(),
-        b"{\"entries\":63,\"success\":20,\"sum\":64000}\n".as_slice()
+        b"{\"entries\":603,\"success\":200,\"sum\":64000}\n".as_slice()
     );
     Ok(())
 }
