@@ -19,7 +19,6 @@ use r3_desk::{Desk, MemDesk, MemShelf, MemSource, Room};
 use r3_value::Val;
 use std::alloc::Global;
 use std::process::Abort;
-use std::str;
 use std::test::Fail;
 
 const RUN: &[&str] = &["s", "run", "acct.fn"];
