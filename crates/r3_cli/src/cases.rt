@@ -28,7 +28,7 @@ const RECOVER: &[&str] = &["s", "recover", "acct.fn", "100"];
 const TINY: &str = "table acct;";
 
 // The accounts a, b and c hold 10, 5 and 0. The transfer moves 3 from a to b, and tells b of it.
-const LOAD: &str = "{\"load\":\"acct\",\"rows\":{\"a\":10,\"b\":5,\"c\":0}}\n";
+const ACCOUNTS: &str = "{\"load\":\"acct\",\"rows\":{\"a\":10,\"b\":5,\"c\":0}}\n";
 
 const TRANSFER: &str = "{\"start\":\"m1\",\"fn\":\"move\",\"args\":[\"a\",\"b\",3]}\n";
 

@@ -1,7 +1,7 @@
 //! The store's file: its bytes, those that are refused, and calls that fail.
 
 use super::history::acts_of;
-use super::{Fails, LOAD as ACCOUNTS, NONE, RUN, TINY, TRANSFER, answered, left_by};
+use super::{ACCOUNTS, Fails, NONE, RUN, TINY, TRANSFER, answered, left_by};
 use r3_gen::BANK;
 use std::alloc::Global;
 use std::test::Fail;
@@ -61,12 +61,12 @@ fn a_file_that_is_no_store_is_refused(rt: HostRuntime) -> Result<(), Fail> {
     let script =
         b"{\"load\":\"acct\",\"rows\":{\"a\":10}}\n{\"load\":\"acct\",\"rows\":{\"b\":5}}\n";
     let replies = "{\"entry\":2}\n{\"entry\":3}\n";
-    let two = answered(&rt, rt.alloc(), TINY, b"", script, replies)?;
-    let two = two.desk.image();
-    assert_eq!(rt;
-        (two.len(), two.get(84), two.get(127)),
-        (128, Some(&0xa5), Some(&0))
-    );
+    let left = answered(&rt, rt.alloc(), TINY, b"", script, replies)?;
+    let two = left.desk.image();
+    assert_eq!(rt; two.len(), 128);
+    // The bytes that commit the second load, and none behind it.
+    assert!(rt; matches!(two.get(84), Some(0xa5)));
+    assert!(rt; matches!(two.get(127), Some(0)));
     let cut: &[u8] = two.get(..126).unwrap_or(b"");
     let other = b"{\"fault\":\"program\"}\n".as_slice();
     // image, function file, status, last line
@@ -154,10 +154,13 @@ fn change_step(image: &mut Vec<u8>, place: usize, from: u8, to: u8) -> Result<()
     let Some(start) = image.windows(STEP.len()).position(|part| part == STEP) else {
         return Err(Fail::from("there is no such row"));
     };
-    match image.get_mut(start.saturating_add(place)) {
-        Some(byte) if *byte == from => *byte = to,
-        _ => return Err(Fail::from("there is no such byte")),
+    let Some(byte) = image.get_mut(start.saturating_add(place)) else {
+        return Err(Fail::from("there is no such byte"));
+    };
+    if *byte != from {
+        return Err(Fail::from("another byte stands there"));
     }
+    *byte = to;
     Ok(())
 }
 
