@@ -3,9 +3,26 @@
 use super::history::acts_of;
 use super::{ACCOUNTS, Fails, Left, NONE, RUN, TRANSFER, answered, has_told, left_by};
 use r3_desk::{MemDesk, Torn};
-use r3_gen::BANK;
 use std::alloc::Global;
 use std::test::Fail;
+
+// What the transfer needs of the functions of `gen`, and no more: each run reads them.
+const PAYING: &str = "table acct;
+queue mail 1;
+outside notify(who, n);
+txn pay(a, b, n) {
+  let x = get acct[a];
+  put acct[a] = x - n;
+  let y = get acct[b];
+  put acct[b] = y + n;
+  return n;
+}
+flow move(a, b, n) {
+  let r = call pay(a, b, n);
+  do call notify(b, r);
+  return r;
+}
+";
 
 const TURN: &str = "{\"turn\":\"m1\"}\n";
 
@@ -35,7 +52,7 @@ fn script_of(alloc: Global, lines: usize) -> Result<String, Fail> {
 
 fn left_after(alloc: Global, lines: usize, fails: &Fails) -> Result<Left, Fail> {
     let script = script_of(alloc, lines)?;
-    left_by(alloc, RUN, b"", BANK.as_bytes(), script.as_bytes(), fails)
+    left_by(alloc, RUN, b"", PAYING.as_bytes(), script.as_bytes(), fails)
 }
 
 // The files of the histories of 0 to 6 entries, without the byte that commits the next one.
@@ -102,7 +119,14 @@ fn ends_alike(alloc: Global, image: &[u8], entries: usize) -> Result<bool, Fail>
     let replies = format!(in alloc;
         "{loaded}{{\"entry\":3,\"id\":\"m1\"}}\n{{\"drain\":\"idle\",\"turns\":{turns}}}\n{{\"args\":[\"a\",\"b\",3],\"attempts\":{attempts},\"fn\":\"move\",\"id\":\"m1\",\"outcome\":{{\"value\":3}},\"parent\":null,\"queue\":null,\"started\":3,\"status\":\"SUCCESS\"}}\n{{\"value\":7}}\n{{\"value\":8}}\n"
     )?;
-    let left = left_by(alloc, RUN, image, BANK.as_bytes(), script.as_bytes(), &NONE)?;
+    let left = left_by(
+        alloc,
+        RUN,
+        image,
+        PAYING.as_bytes(),
+        script.as_bytes(),
+        &NONE,
+    )?;
     let has_asked = has_told(alloc, &left.desk, asks)?;
     Ok(has_asked && left.status == 0 && left.said.as_slice() == replies.as_bytes())
 }
@@ -113,6 +137,7 @@ fn a_crash_leaves_a_prefix_with_all_that_was_acknowledged(rt: HostRuntime) -> Re
     let files = files(alloc)?;
     let whole = left_after(alloc, LINES.len(), &NONE)?;
     let mut least = 0;
+    let mut last = Vec::new(alloc);
     for before in 0..=whole.desk.moment() {
         let fails = Fails {
             desk: before.saturating_add(1),
@@ -127,8 +152,12 @@ fn a_crash_leaves_a_prefix_with_all_that_was_acknowledged(rt: HostRuntime) -> Re
             let image = crash(&whole.desk, before, torn)?;
             let entries = entries_of(&image, &files);
             assert!(rt; entries >= Some(least), "{torn:?} after {before} calls");
-            let is_alike = ends_alike(alloc, &image, entries.unwrap_or(0))?;
-            assert!(rt; is_alike, "{torn:?} after {before} calls");
+            // Most calls leave what the last one left.
+            if image != last {
+                let is_alike = ends_alike(alloc, &image, entries.unwrap_or(0))?;
+                assert!(rt; is_alike, "{torn:?} after {before} calls");
+            }
+            last = image;
         }
     }
     assert_eq!(rt; least, 6);
@@ -209,7 +238,7 @@ fn a_call_that_a_crash_cut_from_its_record_is_made_again(rt: HostRuntime) -> Res
             assert_eq!(rt; acts.as_str(), "program load start txn ");
             let script = b"{\"drain\":100}\n";
             let replies = "{\"drain\":\"idle\",\"turns\":5}\n";
-            let again = answered(&rt, alloc, BANK, &image, script, replies)?;
+            let again = answered(&rt, alloc, PAYING, &image, script, replies)?;
             assert!(rt; has_told(alloc, &again.desk, &["m1"])?);
             let acts = acts_of(alloc, again.desk.image())?;
             assert_eq!(rt;

@@ -251,8 +251,13 @@ fn a_line_that_is_no_form_is_refused(rt: HostRuntime) -> Result<(), Fail> {
         (b"{\"cancel\":null}", COMMAND),
         (b"{\"resume\":[\"x\"]}", COMMAND),
     ];
+    let mut script = Vec::new(rt.alloc());
+    let mut replies = String::new(rt.alloc());
     for (line, reply) in cases {
-        answered(&rt, rt.alloc(), BANK, b"", line, reply)?;
+        script.extend_from_slice(line)?;
+        script.push(b'\n')?;
+        replies.push_str(reply)?;
     }
+    answered(&rt, rt.alloc(), BANK, b"", &script, replies.as_str())?;
     Ok(())
 }

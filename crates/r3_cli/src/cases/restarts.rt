@@ -83,6 +83,9 @@ fn recover_drains_what_was_left(rt: HostRuntime) -> Result<(), Fail> {
     Ok(())
 }
 
+// A workflow that waits for another, and nothing else.
+const WAITING: &str = "queue mail 1; flow wait(me) { let r = await me; return r; }";
+
 const STATUS: &[u8] = b"{\"status\":\"w1\"}\n";
 
 // What such a workflow answers: it has entry 2, and each of its 51 recoveries has one.
@@ -112,7 +115,7 @@ fn a_workflow_is_recovered_fifty_times(rt: HostRuntime) -> Result<(), Fail> {
     let alloc = rt.alloc();
     let start = b"{\"start\":\"w1\",\"fn\":\"wait\",\"args\":[\"w1\"]}\n{\"turn\":\"w1\"}\n";
     let replies = "{\"entry\":2,\"id\":\"w1\"}\n{\"waiting\":\"w1\"}\n";
-    let first = answered(&rt, alloc, BANK, b"", start, replies)?;
+    let first = answered(&rt, alloc, WAITING, b"", start, replies)?;
     let mut image = first.desk.image().to_vec(alloc)?;
     for run in 1..=52_u32 {
         let (attempts, status) = match run {
@@ -122,7 +125,7 @@ fn a_workflow_is_recovered_fifty_times(rt: HostRuntime) -> Result<(), Fail> {
         let row = format!(in alloc;
             "{{\"args\":[\"w1\"],\"attempts\":{attempts},\"fn\":\"wait\",\"id\":\"w1\",\"outcome\":null,\"parent\":null,\"queue\":null,\"started\":2,\"status\":\"{status}\"}}\n"
         )?;
-        let left = answered(&rt, alloc, BANK, &image, STATUS, row.as_str())?;
+        let left = answered(&rt, alloc, WAITING, &image, STATUS, row.as_str())?;
         assert_eq!(rt;
             left.desk.image() == image.as_slice(),
             run == 52,
@@ -131,6 +134,6 @@ fn a_workflow_is_recovered_fifty_times(rt: HostRuntime) -> Result<(), Fail> {
         image = left.desk.image().to_vec(alloc)?;
     }
     let (script, replies) = OUT_OF_ATTEMPTS;
-    answered(&rt, alloc, BANK, &image, script.as_bytes(), replies)?;
+    answered(&rt, alloc, WAITING, &image, script.as_bytes(), replies)?;
     Ok(())
 }
