@@ -52,15 +52,19 @@ fn the_summary_is_said_last_of_all(rt: HostRuntime) -> Result<(), Fail> {
         whole.said.as_slice(),
         b"{\"entries\":5,\"success\":1,\"sum\":64000}\n".as_slice()
     );
+    let mut last = Vec::new(rt.alloc());
     for call in 1..=whole.desk.moment() {
         let fails = Fails { desk: call, ..NONE };
         let left = left_by(rt.alloc(), ONE, b"", b"", b"", &fails)?;
         let is_last = call == whole.desk.moment();
         assert_eq!(rt; left.said.len(), 0, "call {call}");
         assert_eq!(rt; left.status, if is_last { 5 } else { 4 }, "call {call}");
-        // Taken up again, it comes to its end.
-        let again = left_by(rt.alloc(), ONE, left.desk.image(), b"", b"", &NONE)?;
-        assert_eq!(rt; again.status, 0, "call {call}");
+        // Taken up again, it comes to its end. Most calls leave what the last one left.
+        if left.desk.image() != last.as_slice() {
+            let again = left_by(rt.alloc(), ONE, left.desk.image(), b"", b"", &NONE)?;
+            assert_eq!(rt; again.status, 0, "call {call}");
+            last = left.desk.image().to_vec(rt.alloc())?;
+        }
     }
     Ok(())
 }
