@@ -1,5 +1,5 @@
 -- An entry that stands in the store, before its change is noted.
-use Rattle.std.proofs.Common.{◌≡◌, ℕ, ◌≤◌, List, [], ◌∷◌, ◌++◌, sym, ap, ◌∙◌, subst}
+use Rattle.std.proofs.Common.{◌≡◌, ℕ, ◌≤◌, List, [], ◌∷◌, ◌++◌, length, sym, ap, ◌∙◌, subst}
 use Rattle.r3_entry.specs.declared.entry.Entry.{Entry}
 use Rattle.r3_entry.specs.Limits.{IsEntry}
 use Rattle.sys_queue.specs.Lines.{declared_of, new_lines}
@@ -22,6 +22,7 @@ entered old new h e begun keeps rest stands pins entry one = record {
   declared = ap (λ (x : Exec). declared_of x.queues) rest ∙ keeps.declared ∙ ap (λ (x : Exec). declared_of (new_lines x.program)) (sym rest);
   queues = subst (λ (x : Exec). queues.IsIndexOf x.queues (rows_now h)) (sym rest) keeps.queues;
   pending = subst (λ (x : Exec). pending.IsIndexOf x.pending (rows_now h)) (sym rest) keeps.pending;
+  vacuumed = subst (λ (x : Exec). x.vacuumed ≤ length h) (sym rest) keeps.vacuumed;
   entry = entry;
   one_flow = one;
 }

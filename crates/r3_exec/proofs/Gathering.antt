@@ -148,9 +148,9 @@ begins_too (e ∷ h) [] same begins = absurd (omega (arith, same))
 begins_too (e ∷ h) (e' ∷ h') same begins = λ none. absurd cc
 
 pub taken_up : (exec : Exec) (h h' : List Entry) → store.Stands exec.store h → h ≢ [] → exec.store.pins ≡ [] → store.Stands exec.store h'
-    → exec.begun.entries ≡ [] → declared_of exec.queues ≡ declared_of (new_lines exec.program)
+    → exec.vacuumed ≡ length h' → exec.begun.entries ≡ [] → declared_of exec.queues ≡ declared_of (new_lines exec.program)
     → queues.IsIndexOf exec.queues (rows_now h') → pending.IsIndexOf exec.pending (rows_now h') → Stands exec (restarted h')
-taken_up exec h h' known begins pins stands begun declared in_queues in_pending = record {
+taken_up exec h h' known begins pins stands vacuumed begun declared in_queues in_pending = record {
   valid = record {
     formed = stands.formed;
     begins = begins_too h h' (sym known.count ∙ stands.count) begins;
@@ -164,5 +164,6 @@ taken_up exec h h' known begins pins stands begun declared in_queues in_pending 
     declared = declared;
     queues = in_queues;
     pending = in_pending;
+    vacuumed = omega (arith, vacuumed);
   };
 }

@@ -1,4 +1,5 @@
 pub mod Begun
+pub mod Closing
 pub mod Commanding
 pub mod Commits
 pub mod Dequeuing

@@ -1,5 +1,5 @@
 -- The indexes once an entry's change of a workflow's row is noted.
-use Rattle.std.proofs.Common.{◌≡◌, ◌≤◌, List, [], ◌∷◌, ◌++◌, length, Option, Some, None, sym, ap, ◌∙◌, subst}
+use Rattle.std.proofs.Common.{◌≡◌, ◌≤◌, List, [], ◌∷◌, ◌++◌, length, Option, Some, None, sym, ap, ◌∙◌, subst, arith, length-append}
 use Rattle.r3_rows.specs.declared.rows.FlowRow.{FlowRow}
 use Rattle.r3_entry.specs.declared.entry.Entry.{Entry}
 use Rattle.sys_queue.specs.Lines.{declared_of, new_lines}
@@ -38,15 +38,16 @@ module _ (tell : RowsTell) (follow : RowsFollow) where
         declared = entered.declared;
         queues = subst (λ (rows : Rows). queues.IsIndexOf exec.queues rows) same entered.queues;
         pending = subst (λ (rows : Rows). pending.IsIndexOf exec.pending rows) same entered.pending;
+        vacuumed = omega (arith, entered.vacuumed, length-append h (e ∷ []));
       }
 
   pub noted_some : (old new : Exec) (h : List Entry) (e : Entry) (begun : Begun) (id : Text) (before : Option FlowRow)
       → HasEntered old h e begun → IsChange h e.writes (Some (id, before))
-      → new.program ≡ old.program → new.store ≡ old.store → new.begun ≡ old.begun → declared_of new.queues ≡ declared_of old.queues
+      → new.program ≡ old.program → new.store ≡ old.store → new.begun ≡ old.begun → declared_of new.queues ≡ declared_of old.queues → new.vacuumed ≡ old.vacuumed
       → ((row : FlowRow) → flow_at (h ++ e ∷ []) (length (h ++ e ∷ [])) id ≡ Some row
       → queues.Follows old.queues new.queues id before row × pending.Follows old.pending new.pending id before row)
       → Keeps new (h ++ e ∷ []) begun
-  noted_some old new h e begun id before entered change program store_same begun_same declared follows =
+  noted_some old new h e begun id before entered change program store_same begun_same declared vacuumed follows =
       let c = changed_now tell follow h e id (follows_last h e entered.store.formed) entered.one_flow change.0 in
       let f = follows c.0 c.2 in
       let found = find_now tell follow h id ∙ sym change.1 in
@@ -58,4 +59,5 @@ module _ (tell : RowsTell) (follow : RowsFollow) where
         declared = declared ∙ entered.declared ∙ ap (λ p. declared_of (new_lines p)) (sym program);
         queues = subst (λ (rows : Rows). queues.IsIndexOf new.queues rows) (sym c.1) (f.0 (rows_now h) entered.queues found (few_now h e entered.store.formed));
         pending = subst (λ (rows : Rows). pending.IsIndexOf new.pending rows) (sym c.1) (f.1 (rows_now h) entered.pending found);
+        vacuumed = omega (arith, vacuumed, entered.vacuumed, length-append h (e ∷ []));
       }

@@ -18,6 +18,7 @@ keeps_with exec h begun s old new same = record {
   declared = old.declared;
   queues = old.queues;
   pending = old.pending;
+  vacuumed = old.vacuumed;
 }
 
 pub with_store : (exec : Exec) (st : State) (s : Store) → Stands exec st → store.Stands s st.history → s.pins ≡ exec.store.pins

@@ -43,6 +43,7 @@ pub record HasEntered (exec : Exec) (h : List Entry) (e : Entry) (begun : Begun)
   pub declared : declared_of exec.queues ≡ declared_of (new_lines exec.program)
   pub queues : queues.IsIndexOf exec.queues (rows_now h)
   pub pending : pending.IsIndexOf exec.pending (rows_now h)
+  pub vacuumed : exec.vacuumed ≤ length h
   pub entry : IsEntry e
   pub one_flow : flows_in e.writes ≤ 1
 

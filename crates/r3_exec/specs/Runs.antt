@@ -1,5 +1,5 @@
 -- An executor, and the state of the machine that it is in.
-use Rattle.std.specs.Prelude.{◌≡◌, ℕ, List, Option, length, nat_eq, sum_by, T, if◌then◌else◌}
+use Rattle.std.specs.Prelude.{◌≡◌, ◌≤◌, ℕ, List, Option, length, nat_eq, sum_by, T, if◌then◌else◌}
 use Rattle.std.specs.Map.{values_of}
 use Rattle.std.specs.FinMap.Entries.{is_sorted}
 use Rattle.r3_rows.specs.Keys.{bytes_cmp}
@@ -42,6 +42,8 @@ pub record Keeps (exec : Exec) (h : List Entry) (begun : Begun) : Type 0 where
   pub declared : declared_of exec.queues ≡ declared_of (new_lines exec.program)
   pub queues : queues.IsIndexOf exec.queues (rows_now h)
   pub pending : pending.IsIndexOf exec.pending (rows_now h)
+  -- versions were discarded on an earlier history or on this one
+  pub vacuumed : exec.vacuumed ≤ length h
 
 -- it stands for a valid state
 pub record Stands (exec : Exec) (st : State) : Type 0 where

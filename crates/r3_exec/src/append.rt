@@ -67,6 +67,9 @@ impl Exec {
             LeavesImage D.moment D.reach D.may_leave D.said D.asked desk.old desk.new (IsHistoryOf (take k st.history)) }
         ensures reads_settled { (st : State) (k : ℕ) → Runs D.size D.image D.may_leave desk.old self.old st k →
             ForSome (D.image desk.new) (IsHistoryOf (take k st.history)) }
+
+        // The entry isn't settled.
+        ensures syncs { D.syncs desk.new ≡ D.syncs desk.old }
         ensures asked { D.asked desk.new ≡ D.asked desk.old }
         ensures disk { IsErrOf result ExecFault.Disk → Rose (D.disk_faults desk.old) (D.disk_faults desk.new) }
         ensures no_fault { (IsErrOf result ExecFault.Disk → ⊥) → D.disk_faults desk.new ≡ D.disk_faults desk.old }
@@ -111,6 +114,9 @@ impl Exec {
             LeavesImage D.moment D.reach D.may_leave D.said D.asked desk.old desk.new (IsHistoryOf (take k st.history)) }
         ensures reads_settled { (st : State) (k : ℕ) → Runs D.size D.image D.may_leave desk.old self.old st k →
             ForSome (D.image desk.new) (IsHistoryOf (take k st.history)) }
+
+        // The entry isn't settled.
+        ensures syncs { D.syncs desk.new ≡ D.syncs desk.old }
         ensures asked { D.asked desk.new ≡ D.asked desk.old }
         ensures disk { IsErrOf result ExecFault.Disk → Rose (D.disk_faults desk.old) (D.disk_faults desk.new) }
         ensures no_fault { (IsErrOf result ExecFault.Disk → ⊥) → D.disk_faults desk.new ≡ D.disk_faults desk.old }

@@ -142,7 +142,7 @@ impl Exec {
         requires short { length id.now ≤ 200 }
         requires stands { (h : List E) × (row : Row) × StoreStands self.old.store h × (flow_at h (length h) id.now ≡ Some row) }
         ensures others { (self.new.program ≡ self.old.program) × (self.new.store ≡ self.old.store) × (self.new.begun ≡ self.old.begun)
-            × (declared_of self.new.queues ≡ declared_of self.old.queues) }
+            × (declared_of self.new.queues ≡ declared_of self.old.queues) × (self.new.vacuumed ≡ self.old.vacuumed) }
         ensures noted { (h : List E) (row : Row) → StoreStands self.old.store h → flow_at h (length h) id.now ≡ Some row →
             OnOk result (queue.Follows self.old.queues self.new.queues id.now (option_copied old.entry) row
             × running.Follows self.old.pending self.new.pending id.now (option_copied old.entry) row) }
@@ -161,7 +161,8 @@ impl Exec {
     // The entry stands in the store: what it changed is noted.
     fn note(&mut self, alloc: Global, change: &Option<(Txt, Option<FlowRow>)>) -> Result<(), Memory>
         requires entered { (h : List E) × (e : E) × (begun : Begun) × HasEntered self.old h e begun × IsChange h e.writes change.now }
-        ensures others { (self.new.program ≡ self.old.program) × (self.new.store ≡ self.old.store) × (self.new.begun ≡ self.old.begun) }
+        ensures others { (self.new.program ≡ self.old.program) × (self.new.store ≡ self.old.store) × (self.new.begun ≡ self.old.begun)
+            × (self.new.vacuumed ≡ self.old.vacuumed) }
         ensures noted { (h : List E) (e : E) (begun : Begun) → HasEntered self.old h e begun → IsChange h e.writes change.now →
             OnOk result (Keeps self.new (h ++ e ∷ []) begun) }
     {

@@ -110,6 +110,9 @@ impl Exec {
             Leaves D.moment D.reach D.said D.asked desk.old desk.new st.history k }
         ensures reads { (st : State) (k : ℕ) → Runs D.size D.image D.may_leave desk.old self.old st k →
             ForSome (D.image desk.new) (IsRead st.history k) }
+
+        // The entry isn't settled.
+        ensures syncs { D.syncs desk.new ≡ D.syncs desk.old }
         ensures asked { D.asked desk.new ≡ D.asked desk.old }
         ensures disk { IsErrOf result ExecFault.Disk → Rose (D.disk_faults desk.old) (D.disk_faults desk.new) }
         ensures no_fault { (IsErrOf result ExecFault.Disk → ⊥) → D.disk_faults desk.new ≡ D.disk_faults desk.old }
@@ -142,6 +145,9 @@ impl Exec {
             Leaves D.moment D.reach D.said D.asked desk.old desk.new st.history k }
         ensures reads { (st : State) (k : ℕ) → Runs D.size D.image D.may_leave desk.old self.old st k →
             ForSome (D.image desk.new) (IsRead st.history k) }
+
+        // The entry isn't settled.
+        ensures syncs { D.syncs desk.new ≡ D.syncs desk.old }
         ensures asked { D.asked desk.new ≡ D.asked desk.old }
         ensures disk { IsErrOf result ExecFault.Disk → Rose (D.disk_faults desk.old) (D.disk_faults desk.new) }
         ensures no_fault { (IsErrOf result ExecFault.Disk → ⊥) → D.disk_faults desk.new ≡ D.disk_faults desk.old }

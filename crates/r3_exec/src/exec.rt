@@ -29,6 +29,8 @@ use sys_queue::Queues;
 
 /// The plain machine over a store: its program, the queues and the running workflows as the rows say, and the
 /// open snapshots by the IDs of their workflows, each of them pinned in the store.
+///
+/// The versions of the rows that no open snapshot reads are discarded from time to time.
 #[derive(Drop)]
 pub struct Exec {
     pub(crate) program: Checked,
@@ -36,6 +38,8 @@ pub struct Exec {
     pub(crate) queues: Queues,
     pub(crate) pending: Pending,
     pub(crate) begun: BTreeMap<Txt, u32>,
+    // the number of entries when versions were discarded last, or when it was made
+    pub(crate) vacuumed: u32,
 }
 
 // The queue that an item declares.

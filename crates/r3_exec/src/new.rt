@@ -92,6 +92,7 @@ impl Exec {
         ensures store { IfOk result (λ e. e.store ≡ store) }
         ensures program { IfOk result (λ e. e.program ≡ program) }
     {
+        let vacuumed = store.len();
         match indexes(alloc, &program, &store) {
             Ok((queues, pending)) => Ok(Exec {
                 program,
@@ -99,6 +100,7 @@ impl Exec {
                 queues,
                 pending,
                 begun: BTreeMap::new(alloc),
+                vacuumed,
             }),
             Err(_) => Err(Memory),
         }

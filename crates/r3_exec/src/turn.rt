@@ -1,13 +1,14 @@
 //! One turn of a workflow.
 
-ghost use Rattle.std.specs.Prelude.{◌≡◌, ℕ, List, length, IfOk, OnErr, IsErrOf, IsSome, Ok};
+ghost use Rattle.std.specs.Prelude.{◌≡◌, ◌⊎◌, ℕ, List, length, IfOk, OnErr, IsErrOf, IsSome, Ok};
 ghost use Rattle.std.specs.Option.{ForSome};
 ghost use Rattle.r3_desk.specs.Causes.{Rose};
+ghost use Rattle.r3_entry.specs.Image.{IsHistoryOf};
 ghost use Rattle.r3_model.specs.Machine.{State};
 ghost use Rattle.r3_model.specs.Rows.{flow_at};
 ghost use Rattle.r3_model.specs.Event.{Turn};
 ghost use Rattle.r3_exec.specs.Runs.{Runs, language};
-ghost use Rattle.r3_exec.specs.Does.{Does, AskedFirst, IsRead, Leaves};
+ghost use Rattle.r3_exec.specs.Does.{Does, AskedFirst, IsRead, Leaves, SyncsWithin};
 ghost use Rattle.r3_exec.specs.Ends.{turn_reply};
 
 use crate::ends::{ExecFault, TurnEnd};
@@ -40,6 +41,9 @@ impl Exec {
             ForSome (D.image desk.new) (IsRead st.history k) }
         ensures early { (st : State) (k : ℕ) → Runs D.size D.image D.may_leave desk.old self.old st k →
             OnErr result (AskedFirst (language self.old) st (Turn id.now) (D.asked desk.old) (D.asked desk.new)) }
+        ensures asked_kept { (st : State) (k : ℕ) → Runs D.size D.image D.may_leave desk.old self.old st k →
+            OnErr result ((D.asked desk.new ≡ D.asked desk.old) ⊎ ForSome (D.image desk.new) (IsHistoryOf st.history)) }
+        ensures few_syncs { SyncsWithin (D.syncs desk.old) (D.syncs desk.new) 2 }
         ensures disk { IsErrOf result ExecFault.Disk → Rose (D.disk_faults desk.old) (D.disk_faults desk.new) }
         ensures no_fault { (IsErrOf result ExecFault.Disk → ⊥) → D.disk_faults desk.new ≡ D.disk_faults desk.old }
         ensures again { result ≡ Ok TurnEnd.Again → Rose (D.ask_faults desk.old) (D.ask_faults desk.new) }
@@ -88,6 +92,13 @@ impl Exec {
             ForSome (D.image desk.new) (IsRead st.history k) }
         ensures early { (st : State) (k : ℕ) → Runs D.size D.image D.may_leave desk.old self.old st k →
             OnErr result (AskedFirst (language self.old) st (Turn id.now) (D.asked desk.old) (D.asked desk.new)) }
+
+        // Where it fails, nothing was asked, or all that stood before it is on the disk.
+        ensures asked_kept { (st : State) (k : ℕ) → Runs D.size D.image D.may_leave desk.old self.old st k →
+            OnErr result ((D.asked desk.new ≡ D.asked desk.old) ⊎ ForSome (D.image desk.new) (IsHistoryOf st.history)) }
+
+        // Nothing is settled but before a call.
+        ensures few_syncs { SyncsWithin (D.syncs desk.old) (D.syncs desk.new) 2 }
         ensures disk { IsErrOf result ExecFault.Disk → Rose (D.disk_faults desk.old) (D.disk_faults desk.new) }
         ensures no_fault { (IsErrOf result ExecFault.Disk → ⊥) → D.disk_faults desk.new ≡ D.disk_faults desk.old }
         ensures again { result ≡ Ok TurnEnd.Again → Rose (D.ask_faults desk.old) (D.ask_faults desk.new) }

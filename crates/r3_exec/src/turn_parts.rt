@@ -1,6 +1,6 @@
 //! The parts of a turn: its entry, its external call.
 
-ghost use Rattle.std.specs.Prelude.{◌≡◌, ◌+◌, ℕ, List, Some, length, take, IfOk, OnErr, IsErrOf, Ok};
+ghost use Rattle.std.specs.Prelude.{◌≡◌, ◌⊎◌, ◌+◌, ℕ, List, Some, length, take, IfOk, OnErr, IsErrOf, Ok};
 ghost use Rattle.std.specs.Option.{ForSome};
 ghost use Rattle.r3_desk.specs.Causes.{Rose};
 ghost use Rattle.r3_desk.specs.Moments.{LeavesImage};
@@ -13,7 +13,7 @@ ghost use Rattle.r3_model.specs.Event as reply;
 ghost use Rattle.r3_model.specs.Event.{Turn};
 ghost use Rattle.r3_model.specs.Machine.{State};
 ghost use Rattle.r3_model.specs.Turns.{call_of_turn, turned};
-ghost use Rattle.r3_exec.specs.Does.{Does, AskedFirst, IsRead, Leaves};
+ghost use Rattle.r3_exec.specs.Does.{Does, AskedFirst, IsRead, Leaves, SyncsWithin};
 ghost use Rattle.r3_exec.specs.Ends.{turn_reply};
 ghost use Rattle.r3_exec.specs.Entered.{HasNumber, reply_after};
 ghost use Rattle.r3_exec.specs.Runs.{Runs, language};
@@ -80,6 +80,7 @@ impl Exec {
         ensures ask_faults { D.ask_faults desk.new ≡ D.ask_faults desk.old }
         ensures not_again { result ≡ Ok TurnEnd.Again → ⊥ }
         ensures asked { D.asked desk.new ≡ D.asked desk.old }
+        ensures syncs { D.syncs desk.new ≡ D.syncs desk.old }
         ensures said { D.said desk.new ≡ D.said desk.old }
         ensures say_faults { D.say_faults desk.new ≡ D.say_faults desk.old }
     {
@@ -184,6 +185,9 @@ impl Exec {
             ForSome (D.image desk.new) (IsRead st.history k) }
         ensures early { (st : State) (k : ℕ) → Runs D.size D.image D.may_leave desk.old self.old st k →
             OnErr result (AskedFirst (language self.old) st (Turn id.now) (D.asked desk.old) (D.asked desk.new)) }
+        ensures asked_kept { (st : State) (k : ℕ) → Runs D.size D.image D.may_leave desk.old self.old st k →
+            OnErr result ((D.asked desk.new ≡ D.asked desk.old) ⊎ ForSome (D.image desk.new) (IsHistoryOf st.history)) }
+        ensures few_syncs { SyncsWithin (D.syncs desk.old) (D.syncs desk.new) 2 }
         ensures disk { IsErrOf result ExecFault.Disk → Rose (D.disk_faults desk.old) (D.disk_faults desk.new) }
         ensures no_fault { (IsErrOf result ExecFault.Disk → ⊥) → D.disk_faults desk.new ≡ D.disk_faults desk.old }
         ensures again { result ≡ Ok TurnEnd.Again → Rose (D.ask_faults desk.old) (D.ask_faults desk.new) }

@@ -99,6 +99,7 @@ impl Exec {
         ensures ask_faults { D.ask_faults desk.new ≡ D.ask_faults desk.old }
         ensures not_again { result ≡ Ok TurnEnd.Again → ⊥ }
         ensures asked { D.asked desk.new ≡ D.asked desk.old }
+        ensures syncs { D.syncs desk.new ≡ D.syncs desk.old }
         ensures said { D.said desk.new ≡ D.said desk.old }
         ensures say_faults { D.say_faults desk.new ≡ D.say_faults desk.old }
     {
@@ -158,6 +159,7 @@ impl Exec {
         ensures ask_faults { D.ask_faults desk.new ≡ D.ask_faults desk.old }
         ensures not_again { result ≡ Ok TurnEnd.Again → ⊥ }
         ensures asked { D.asked desk.new ≡ D.asked desk.old }
+        ensures syncs { D.syncs desk.new ≡ D.syncs desk.old }
         ensures said { D.said desk.new ≡ D.said desk.old }
         ensures say_faults { D.say_faults desk.new ≡ D.say_faults desk.old }
     {

@@ -57,8 +57,13 @@ abbrev pub Ran : {D : Type 0} → (D → Option (List ℕ)) → (D → ℕ) → 
 Ran told_image moment reach said asked from now P text h lines starts =
     (all : Text) × HasSaid told_image moment reach said asked from now P text h lines starts all []
 
+-- the summary's saying failed: all lines were answered, a first part of it was said, and nothing else
+abbrev pub SummaryFailed : {D : Type 0} → (D → Option (List ℕ)) → (D → ℕ) → (D → Reach) → (D → Option (List ℕ)) → (D → Option (List desk.Call)) → D → D → Language → Text → List Entry → List Line → ℕ → Type 0
+SummaryFailed told_image moment reach said asked from now P text h lines starts =
+    (part : Text) × (rest : Text) × HasSaid told_image moment reach said asked from now P text h lines starts part rest
+
 -- the run has ended early: within the lines, or within the summary
 abbrev pub EndsEarly : {D : Type 0} → (D → Option ℕ) → (D → Option (List ℕ)) → (D → List ℕ → Type 0) → (D → ℕ) → (D → Reach) → (D → Option (List ℕ)) → (D → Option (List desk.Call)) → D → D → Exec → Text → List Entry → List Line → ℕ → Type 0
 EndsEarly told_size told_image may_leave moment reach said asked from now exec text h lines starts =
     StoppedAmong told_size told_image may_leave moment reach said asked from now exec text h [] lines
-    ⊎ ((part : Text) × (rest : Text) × HasSaid told_image moment reach said asked from now (language exec) text h lines starts part rest)
+    ⊎ SummaryFailed told_image moment reach said asked from now (language exec) text h lines starts

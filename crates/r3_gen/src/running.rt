@@ -14,7 +14,7 @@ ghost use Rattle.r3_exec.specs.declared.exec.Exec.{Exec};
 ghost use Rattle.r3_recover.specs.Opened.{HasProgram, HasCause, IsHalted};
 ghost use Rattle.r3_session.specs.Begun.{StopsOpening};
 ghost use Rattle.r3_serve.specs.Served.{Quiet, Served};
-ghost use Rattle.r3_gen.specs.Ran.{Ran, EndsEarly};
+ghost use Rattle.r3_gen.specs.Ran.{Ran, SummaryFailed, EndsEarly};
 
 use crate::fault::GenFault;
 use crate::script::generate;
@@ -44,6 +44,13 @@ pub fn run_opened<D: Desk>(
     ensures stops { (from : D) (text : Text) (h : List Entry) →
         Served D.size D.image D.may_leave D.moment D.reach D.said D.asked from desk.old session.old.exec Quiet text h [] →
         OnErr result (EndsEarly D.size D.image D.may_leave D.moment D.reach D.said D.asked from desk.new session.new.exec text h (generated number count) count) }
+
+    // A say failed only where the summary's did. With each other fault nothing is said.
+    ensures say_whole { (from : D) (text : Text) (h : List Entry) →
+        Served D.size D.image D.may_leave D.moment D.reach D.said D.asked from desk.old session.old.exec Quiet text h [] →
+        IsErrOf result ServeFault.Say →
+        SummaryFailed D.image D.moment D.reach D.said D.asked from desk.new (language session.old.exec) text h (generated number count) count }
+    ensures silent { (IsErrOf result ServeFault.Say → ⊥) → OnErr result (D.said desk.new ≡ D.said desk.old) }
     ensures program { session.new.exec.program ≡ session.old.exec.program }
     ensures disk { IsErrOf result ServeFault.Disk → Rose (D.disk_faults desk.old) (D.disk_faults desk.new) }
     ensures no_fault { (IsErrOf result ServeFault.Disk → ⊥) → D.disk_faults desk.new ≡ D.disk_faults desk.old }
@@ -99,6 +106,12 @@ pub fn run<D: Desk>(
         ((h : List Entry) × ForSome (D.image desk.old) (IsHistoryOf h) × HasProgram h text.now
         × (exec : Exec) × (exec.program ≡ program)
         × EndsEarly D.size D.image D.may_leave D.moment D.reach D.said D.asked desk.old desk.new exec text.now h (generated number count) count)) }
+
+    // A say failed only where the summary's did. With each other fault nothing is said.
+    ensures say_whole { result ≡ Err GenFault.Say →
+        (h : List Entry) × ForSome (D.image desk.old) (IsHistoryOf h) × HasProgram h text.now
+        × SummaryFailed D.image D.moment D.reach D.said D.asked desk.old desk.new (language_of program) text.now h (generated number count) count }
+    ensures silent { (result ≡ Err GenFault.Say → ⊥) → OnErr result (D.said desk.new ≡ D.said desk.old) }
     ensures disk { (result ≡ Err GenFault.Disk) ⊎ (result ≡ Err (GenFault.Start StartFault.Disk)) → Rose (D.disk_faults desk.old) (D.disk_faults desk.new) }
     ensures no_fault { (result ≡ Err GenFault.Disk → ⊥) → (result ≡ Err (GenFault.Start StartFault.Disk) → ⊥) → D.disk_faults desk.new ≡ D.disk_faults desk.old }
     ensures say { result ≡ Err GenFault.Say → Rose (D.say_faults desk.old) (D.say_faults desk.new) }

@@ -1,7 +1,7 @@
 mod Asking
 mod Nexts
-mod Owing
-mod Leaving
+pub mod Owing
+pub mod Leaving
 mod Phases
 mod Points
 mod There

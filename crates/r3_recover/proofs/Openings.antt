@@ -68,7 +68,7 @@ none-within a b w =
     let none : w.0 ≡ 0 = omega (arith, w.1) in
     w.2 ∙ ap (λ (n : ℕ). option_map (λ k. k + n) a) none ∙ no-more a
 
-one-within : (a b c : Option ℕ) → b ≡ a → (c ≡ b) ⊎ (c ≡ option_map (λ n. n + 1) b) → SyncsWithin a c 1
+pub one-within : (a b c : Option ℕ) → b ≡ a → (c ≡ b) ⊎ (c ≡ option_map (λ n. n + 1) b) → SyncsWithin a c 1
 one-within a b c same more = ⊎_elim
     (λ none. (0, omega arith, none ∙ same ∙ sym (no-more a)))
     (λ one. (1, omega arith, one ∙ ap (λ (x : Option ℕ). option_map (λ n. n + 1) x) same))

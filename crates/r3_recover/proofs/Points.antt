@@ -1,8 +1,9 @@
 -- How a drain and its desk go on, from one point to the next.
-use Rattle.std.proofs.Common.{◌≡◌, inr, ℕ, suc, ◌+◌, ◌*◌, ◌≤◌, Bool, ◌||◌, List, [], ◌∷◌, ◌++◌, length, Option, refl, sym, ap, ◌∙◌, subst, ⊎_elim, arith, append-nil, length-append}
+use Rattle.std.proofs.Common.{◌≡◌, ◌⊎◌, inr, ℕ, suc, ◌+◌, ◌*◌, ◌≤◌, Bool, ◌||◌, List, [], ◌∷◌, ◌++◌, length, Option, refl, sym, ap, ◌∙◌, subst, ⊎_elim, arith, append-nil, length-append}
 use Rattle.std.specs.Option.{ForSome}
 use Rattle.r3_value.specs.declared.value.Outcome.{Outcome}
 use Rattle.r3_entry.specs.declared.entry.Entry.{Entry}
+use Rattle.r3_entry.specs.Image.{IsHistoryOf}
 use Rattle.r3_desk.specs.Asked as desk
 use Rattle.r3_desk.specs.Crash.{Reach}
 use Rattle.r3_desk.specs.Disk.{told_len}
@@ -21,7 +22,7 @@ use Rattle.r3_recover.specs.Kept.{IsKept, LeavesKept, settled_by, marks_on}
 use Rattle.r3_recover.specs.Drained.{Drains, EndsEarly, IsOfNext}
 use Rattle.r3_recover.specs.Rounds.{Phase, Reaches, AreThere, AreWithin, Point}
 use Rattle.r3_recover.proofs.Owing.{owed-within, within-more, within-higher, within-on, asked-more, asked-on, settled-more}
-use Rattle.r3_recover.proofs.Leaving.{kept-all, leaves-more, told-append, told-more, told-most, few-then}
+use Rattle.r3_recover.proofs.Leaving.{kept-all, leaves-more, told-append, told-more, told-most, few-by, few-then}
 use Rattle.r3_recover.proofs.Phases.{Begins, reaches-next, reaches-drains}
 
 -- a step leaves what stood
@@ -140,6 +141,32 @@ module _ {D : Type 0} (told_size : D → Option ℕ) (told_image : D → Option 
       })
       (reads image told)
 
+  -- no call was asked, or the disk has all that stood before it
+  abbrev pub IsAllRead : D → List Entry → List Call → Type 0
+  IsAllRead new h last = (last ≡ []) ⊎ ForSome (told_image new) (IsHistoryOf h)
+
+  -- what is read once the next one has ended early
+  pub reads-ended : (from now new : D) (exec : Exec) (st : State) (settled turns left : ℕ) (phase : Phase) (changed : Bool)
+      → (p : PointAt from now exec st settled turns phase left changed) (last : List Call)
+      → ForSome (told_image new) (IsRead p.after.history (settled_by settled p.marks))
+      → IsAllRead new p.after.history last
+      → ForSome (told_image new) (IsKept p.after.history settled (p.marks ++ marks_on p.after.history last) (length (p.calls ++ last)))
+  reads-ended from now new exec st settled turns left phase changed p last reads all = λ image told.
+      let h : List Entry = p.after.history in
+      let more : List Mark = p.marks ++ marks_on h last in
+      ⊎_elim
+      (λ none.
+      subst (λ (cs : List Call). IsKept h settled (p.marks ++ marks_on h cs) (length (p.calls ++ cs)) image) (sym none)
+      (subst (λ (ms : List Mark). IsKept h settled ms (length (p.calls ++ [])) image) (sym (append-nil p.marks))
+      (subst (λ (cs : List Call). IsKept h settled p.marks (length cs) image) (sym (append-nil p.calls))
+      (reads-kept from now new exec st settled turns left phase changed p reads image told))))
+      (λ whole.
+      subst (λ (es : List Entry). IsKept es settled more (length (p.calls ++ last)) image) (append-nil h)
+      (kept-all h [] settled more (length (p.calls ++ last)) image (omega (arith, p.no_less, p.runs.holds.within))
+      (within-more (length h) p.marks (marks_on h last) (within-higher (settled_by settled p.marks) (length h) p.marks p.runs.holds.within p.kept) (within-on h last))
+      (whole image told)))
+      all
+
   -- the next one ended early
   pub point-ends : OnlyAppends → (from now new : D) (exec : Exec) (P : Language) (st : State) (settled turns left : ℕ) (phase : Phase) (changed : Bool)
       → (p : PointAt from now exec st settled turns phase left changed)
@@ -148,8 +175,10 @@ module _ {D : Type 0} (told_size : D → Option ℕ) (told_image : D → Option 
       → IsOfNext (language exec) turns p.done st p.after p.calls p.marks last
       → Leaves moment reach said asked now new p.after.history (settled_by settled p.marks)
       → ForSome (told_image new) (IsRead p.after.history (settled_by settled p.marks))
-      → EndsEarly told_image moment reach said asked P from new st settled turns
-  point-ends law from now new exec P st settled turns left phase changed p same last told of_next leaves reads = record {
+      → SyncsWithin (syncs now) (syncs new) 2
+      → IsAllRead new p.after.history last
+      → EndsEarly told_image moment reach said asked syncs P from new st settled turns
+  point-ends law from now new exec P st settled turns left phase changed p same last told of_next leaves reads few all = record {
     done = p.done;
     within = omega (arith, p.total);
     calls = p.calls;
@@ -159,9 +188,10 @@ module _ {D : Type 0} (told_size : D → Option ℕ) (told_image : D → Option 
     last = last;
     of_next = subst (λ (L : Language). IsOfNext L turns p.done st p.after p.calls p.marks last) same of_next;
     told = told ∙ ap (λ (o : Option (List desk.Call)). told_after o last) p.told ∙ told-append (asked from) p.calls last;
+    few_syncs = few-by (syncs from) (syncs now) (syncs new) (2 * length p.calls) 2 (2 * length p.calls + 2) p.few_syncs few (omega arith);
     leaves = subst (λ (h : List Entry). LeavesKept moment reach said asked from new h settled (p.marks ++ marks_on p.after.history last)) (append-nil p.after.history)
         (leaves-next law from now new exec st settled turns left phase changed p [] last told leaves);
-    reads = reads-kept from now new exec st settled turns left phase changed p reads;
+    reads = reads-ended from now new exec st settled turns left phase changed p last reads all;
   }
 
   -- its call was asked, or none

@@ -8,6 +8,7 @@ use Rattle.r3_desk.specs.Disk.{told_len}
 use Rattle.r3_desk.specs.Moments.{started, LeavesImage}
 use Rattle.r3_model.specs.Language.{Language}
 use Rattle.r3_model.specs.Machine.{State}
+use Rattle.r3_exec.proofs.Syncs.{no_more}
 use Rattle.r3_recover.specs.Kept.{IsKept, LeavesKept}
 use Rattle.r3_recover.specs.Drained.{EndsEarly}
 use Rattle.r3_recover.specs.Rounds.{Queues}
@@ -35,14 +36,14 @@ module _ {D : Type 0} (told_image : D → Option (List ℕ)) (may_leave : D → 
       }
 
   -- a drain that ended before its first dequeue or turn
-  pub ends-first : (P : Language) (d : D) (st : State) (k turns : ℕ)
+  pub ends-first : (syncs : D → Option ℕ) (P : Language) (d : D) (st : State) (k turns : ℕ)
       → ((t : ℕ) (c : List ℕ) → t ≤ moment d → may_leave d c → reach d t c (told_len (said d)) (told_len (asked d)))
       → ((c : List ℕ) (n m : ℕ) → reach d (moment d) c n m → may_leave d c × (n ≡ told_len (said d)) × (m ≡ told_len (asked d)))
       → k ≤ length st.history
       → ((c : List ℕ) → may_leave d c → IsHistoryOf (take k st.history) c)
       → ((c : List ℕ) → told_image d ≡ Some c → IsHistoryOf (take k st.history) c)
-      → EndsEarly told_image moment reach said asked P d d st k turns
-  ends-first P d st k turns counts_now only_now le here read = record {
+      → EndsEarly told_image moment reach said asked syncs P d d st k turns
+  ends-first syncs P d st k turns counts_now only_now le here read = record {
     done = 0;
     within = omega arith;
     calls = [];
@@ -52,6 +53,7 @@ module _ {D : Type 0} (told_image : D → Option (List ℕ)) (may_leave : D → 
     last = [];
     of_next = inl refl;
     told = told-none (asked d);
+    few_syncs = no_more (syncs d) (syncs d) refl 2;
     leaves = quiet-kept d st.history k counts_now only_now le here;
     reads = λ image told. kept-now st.history k 0 image le (read image told);
   }

@@ -5,6 +5,7 @@ use Rattle.std.specs.Option.{ForSome}
 use Rattle.r3_value.specs.declared.value.Outcome.{Outcome}
 use Rattle.r3_entry.specs.declared.entry.Entry.{Entry}
 use Rattle.r3_entry.specs.Formed.{IsFormed}
+use Rattle.r3_entry.specs.Image.{IsHistoryOf}
 use Rattle.r3_desk.specs.Asked as desk
 use Rattle.r3_desk.specs.Causes.{Rose}
 use Rattle.r3_desk.specs.Crash.{Reach}
@@ -17,7 +18,8 @@ use Rattle.r3_model.specs.Machine.{Out, State, call_with, calls_of}
 use Rattle.r3_model.specs.Turns.{call_of_turn}
 use Rattle.r3_laws.specs.OfPending.{RowsFollow, RowsTell}
 use Rattle.r3_exec.specs.Runs.{Runs, language}
-use Rattle.r3_exec.specs.Does.{AskedFirst, Does, IsRead, Leaves, told_after}
+use Rattle.r3_exec.specs.Does.{AskedFirst, Does, IsRead, Leaves, SyncsWithin, told_after}
+use Rattle.r3_exec.proofs.Syncs.{no_more}
 use Rattle.r3_exec.specs.declared.exec.Exec.{Exec}
 use Rattle.r3_exec.specs.declared.ends.ExecFault.{ExecFault}
 use Rattle.r3_exec.specs.declared.ends.TurnEnd.{TurnEnd}
@@ -27,7 +29,7 @@ use Rattle.r3_recover.specs.Drained.{EndsEarly, IsOfNext, Raised}
 use Rattle.r3_recover.specs.Rounds.{AreThere, Phase, Point, Queues, Turns}
 use Rattle.r3_recover.proofs.Leaving.{told-none}
 use Rattle.r3_recover.proofs.Phases.{queue-begins, turn-begins}
-use Rattle.r3_recover.proofs.Points.{of-next, point-ends, point-next}
+use Rattle.r3_recover.proofs.Points.{IsAllRead, of-next, point-ends, point-next}
 use Rattle.r3_recover.proofs.There.{all-stay}
 
 -- ---- what is left of a list
@@ -100,8 +102,12 @@ module _ {D : Type 0} (told_size : D → Option ℕ) (told_image : D → Option 
   abbrev EachAsks : D → D → Exec → Event → Type 0
   EachAsks now new exec ev = (s : State) (k : ℕ) → Runs told_size told_image may_leave now exec s k → AskedFirst (language exec) s ev (asked now) (asked new)
 
+  -- where it failed nothing was asked, or the disk has all that stood before it
+  abbrev EachAsked : D → D → Exec → Type 0
+  EachAsked now new exec = (s : State) (k : ℕ) → Runs told_size told_image may_leave now exec s k → (asked new ≡ asked now) ⊎ ForSome (told_image new) (IsHistoryOf s.history)
+
   abbrev Early : D → D → Exec → State → ℕ → ℕ → Type 0
-  Early from new exec st settled turns = EndsEarly told_image moment reach said asked (language exec) from new st settled turns
+  Early from new exec st settled turns = EndsEarly told_image moment reach said asked syncs (language exec) from new st settled turns
 
   one-left : (from now : D) (exec : Exec) (st : State) (settled turns left : ℕ) (phase : Phase) (changed : Bool) → 0 < left
       → At from now exec st settled turns phase left changed → At from now exec st settled turns phase (suc (left - 1)) changed
@@ -130,12 +136,13 @@ module _ {D : Type 0} (told_size : D → Option ℕ) (told_image : D → Option 
       p (queue-begins (language exec) name names) program (does p.after k p.runs) (leaves p.after k p.runs) same_said p.there.1)
 
   pub dequeue-ends : OnlyAppends → (from now new : D) (exec : Exec) (st : State) (settled turns left : ℕ) (phase : Phase) (changed : Bool)
-      → At from now exec st settled turns phase left changed → asked new ≡ asked now → EachLeaves now new exec → EachReads now new exec
+      → At from now exec st settled turns phase left changed → asked new ≡ asked now → syncs new ≡ syncs now → EachLeaves now new exec → EachReads now new exec
       → Early from new exec st settled turns
-  dequeue-ends law from now new exec st settled turns left phase changed p same leaves reads =
+  dequeue-ends law from now new exec st settled turns left phase changed p same same_syncs leaves reads =
       let k : ℕ = settled_by settled p.marks in
       point-ends told_size told_image may_leave moment reach said asked syncs law from now new exec (language exec) st settled turns left phase changed p refl
       [] (same ∙ told-none (asked now)) (inl refl) (leaves p.after k p.runs) (reads p.after k p.runs)
+      (no_more (syncs now) (syncs new) same_syncs 2) (inl refl)
 
   -- ---- a turn
 
@@ -159,10 +166,10 @@ module _ {D : Type 0} (told_size : D → Option ℕ) (told_image : D → Option 
 
   pub turn-ends : OnlyAppends → (from now new : D) (exec : Exec) (st : State) (settled turns left : ℕ) (id passed : Text) (ids : List Text) (changed : Bool)
       → At from now exec st settled turns (Turns (id ∷ ids)) left changed → passed ≡ id → 0 < left
-      → EachAsks now new exec (Turn passed)
+      → EachAsks now new exec (Turn passed) → EachAsked now new exec → SyncsWithin (syncs now) (syncs new) 2
       → EachLeaves now new exec → EachReads now new exec
       → Early from new exec st settled turns
-  turn-ends law from now new exec st settled turns left id passed ids changed point same_id some passed_early leaves reads =
+  turn-ends law from now new exec st settled turns left id passed ids changed point same_id some passed_early kept few leaves reads =
       let early = subst (λ (i : Text). EachAsks now new exec (Turn i)) same_id passed_early in
       let P : Language = language exec in
       let phase : Phase = Turns (id ∷ ids) in
@@ -170,13 +177,19 @@ module _ {D : Type 0} (told_size : D → Option ℕ) (told_image : D → Option 
       let k : ℕ = settled_by settled p.marks in
       let first = early p.after k p.runs in
       let calls : List Call = calls_of P p.after.history (Turn id) first.0 in
-      let ended : (last : List Call) → asked new ≡ told_after (asked now) last → IsOfNext P turns p.done st p.after p.calls p.marks last → Early from new exec st settled turns =
-      λ last told next. point-ends told_size told_image may_leave moment reach said asked syncs law from now new exec P st settled turns (suc (left - 1)) phase changed p refl
-      last told next (leaves p.after k p.runs) (reads p.after k p.runs) in
+      let ended : (last : List Call) → asked new ≡ told_after (asked now) last → IsOfNext P turns p.done st p.after p.calls p.marks last
+      → IsAllRead told_size told_image may_leave moment reach said asked syncs new p.after.history last → Early from new exec st settled turns =
+      λ last told next all. point-ends told_size told_image may_leave moment reach said asked syncs law from now new exec P st settled turns (suc (left - 1)) phase changed p refl
+      last told next (leaves p.after k p.runs) (reads p.after k p.runs) few all in
       let as_told : (last : List Call) → take first.1 calls ≡ last → asked new ≡ told_after (asked now) last =
       λ last e. first.2 ∙ ap (λ (cs : List Call). told_after (asked now) cs) e in
       ⊎_elim
-      (λ none. ended [] (as_told [] none) (inl refl))
+      (λ same. ended [] (same ∙ told-none (asked now)) (inl refl) (inl refl))
+      (λ whole.
+      ⊎_elim
+      (λ none. ended [] (as_told [] none) (inl refl) (inl refl))
       (λ all. ended calls (as_told calls all)
-      (of-next told_size told_image may_leave moment reach said asked syncs from now exec st settled turns (left - 1) phase (Turns ids) changed (Turn id) p (turn-begins P id ids) first.0))
-      (none-or-all first.1 calls (one-at-most P p.after.history id first.0 (call_of_turn P p.after.history id)))
+      (of-next told_size told_image may_leave moment reach said asked syncs from now exec st settled turns (left - 1) phase (Turns ids) changed (Turn id) p (turn-begins P id ids) first.0)
+      (inr whole))
+      (none-or-all first.1 calls (one-at-most P p.after.history id first.0 (call_of_turn P p.after.history id))))
+      (kept p.after k p.runs)

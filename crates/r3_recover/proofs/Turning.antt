@@ -1,6 +1,6 @@
 -- From one part of a drain to the next: the first round, its turns, the next round, the end.
-use Rattle.std.proofs.Common.{◌≡◌, inl, inr, ℕ, suc, ◌+◌, ◌-◌, ◌*◌, ◌<◌, ◌≤◌, Bool, true, false, List, [], take, Option, Some, None, refl, sym, ap, ◌∙◌, subst, arith, append-nil}
-use Rattle.std.specs.Prelude.{MatchOption, MatchResult, Result}
+use Rattle.std.proofs.Common.{◌≡◌, inl, inr, ℕ, suc, ◌+◌, ◌-◌, ◌*◌, ◌<◌, ◌≤◌, Bool, true, false, List, [], length, take, Option, Some, None, Ok, Err, refl, sym, ap, ◌∙◌, subst, arith, append-nil}
+use Rattle.std.specs.Prelude.{MatchOption, MatchResult, OnOk, Result}
 use Rattle.r3_entry.specs.declared.entry.Entry.{Entry}
 use Rattle.r3_entry.specs.Image.{IsHistoryOf}
 use Rattle.r3_desk.specs.Asked as desk
@@ -22,9 +22,9 @@ use Rattle.r3_recover.specs.Ends.{drain_reply}
 use Rattle.r3_recover.specs.Kept.{LeavesKept, settled_by}
 use Rattle.r3_recover.specs.Drained.{DoesDrain, Drains, EndsEarly, Replies}
 use Rattle.r3_recover.specs.Rounds.{AreThere, Phase, Point, Queues, Reaches, Turns}
-use Rattle.r3_recover.proofs.Leaving.{told-none}
+use Rattle.r3_recover.proofs.Leaving.{few-more, told-none}
 use Rattle.r3_recover.proofs.Phases.{HasMore, drains-idle, queue_names, reaches-drains, reaches-first, reaches-round, reaches-turns, replies-cut, replies-idle, replies-spent}
-use Rattle.r3_recover.proofs.Points.{reads-kept}
+use Rattle.r3_recover.proofs.Points.{reads-ended, reads-kept}
 use Rattle.r3_recover.proofs.Starts.{quiet-kept}
 use Rattle.r3_recover.proofs.There.{all-declared, all-known}
 
@@ -197,7 +197,7 @@ module _ {D : Type 0} (told_size : D → Option ℕ) (told_image : D → Option 
   -- the drain ended here, before the next dequeue or turn
   pub point-stops : (from now : D) (exec : Exec) (st : State) (settled turns left : ℕ) (phase : Phase) (changed : Bool)
       → (p : At from now exec st settled turns phase left changed) → ReadsSettled now exec
-      → EndsEarly told_image moment reach said asked (language exec) from now st settled turns
+      → EndsEarly told_image moment reach said asked syncs (language exec) from now st settled turns
   point-stops from now exec st settled turns left phase changed p read = record {
     done = p.done;
     within = omega (arith, p.total);
@@ -209,8 +209,9 @@ module _ {D : Type 0} (told_size : D → Option ℕ) (told_image : D → Option 
     of_next = inl refl;
     told = p.told ∙ ap (λ (cs : List Call). told_after (asked from) cs) (sym (append-nil p.calls));
     leaves = subst (λ (ms : List Mark). LeavesKept moment reach said asked from now p.after.history settled ms) (sym (append-nil p.marks)) p.leaves;
-    reads = reads-kept told_size told_image may_leave moment reach said asked syncs from now now exec st settled turns left phase changed p
-        (λ image told. inr (read p.after.history (settled_by settled p.marks) image p.runs.holds told));
+    reads = reads-ended told_size told_image may_leave moment reach said asked syncs from now now exec st settled turns left phase changed p []
+        (λ image told. inr (read p.after.history (settled_by settled p.marks) image p.runs.holds told)) (inl refl);
+    few_syncs = few-more (syncs from) (syncs now) (2 * length p.calls) (2 * length p.calls + 2) p.few_syncs (omega arith);
   }
 
   -- what a round comes to: the next one, the end of the drain, or a fault
@@ -218,9 +219,14 @@ module _ {D : Type 0} (told_size : D → Option ℕ) (told_image : D → Option 
   GoesRound from new exec st settled turns names P left result =
       MatchResult result
       (λ end. MatchOption end (At from new exec st settled turns (Queues names) left false) (λ e. Ends from new exec st settled turns (drain_reply e)))
-      (λ fault. EndsEarly told_image moment reach said asked P from new st settled turns)
+      (λ fault. EndsEarly told_image moment reach said asked syncs P from new st settled turns)
 
 -- a round that changed something has taken one
 pub one-taken : (changed : Bool) (first mid last : ℕ) → (changed ≡ true → mid < first) → mid ≤ first → last ≤ mid → (changed ≡ false → last < mid) → last < first
 one-taken true first mid last a b c d = omega (arith, a refl, c)
 one-taken false first mid last a b c d = omega (arith, b, d refl)
+
+-- what holds where it went well
+pub on-ok : {A E : Type 0} (r : Result A E) (F G : Type 0) → (F → G) → OnOk r F → OnOk r G
+on-ok (Ok a) F G then f = then f
+on-ok (Err e) F G then f = tt {0}

@@ -63,7 +63,7 @@ IsOfNext P turns done old after calls marks last =
     × Drains P (done + 1) old new (calls ++ last) (marks ++ marks_on after.history last))
 
 -- The drain ended early: so many dequeues and turns were done, and of the next one its call was asked at most.
-pub record EndsEarly {D : Type 0} (told_image : D → Option (List ℕ)) (moment : D → ℕ) (reach : D → Reach) (said : D → Option (List ℕ)) (asked : D → Option (List desk.Call)) (P : Language) (old new : D) (st : State) (settled turns : ℕ) : Type 0 where
+pub record EndsEarly {D : Type 0} (told_image : D → Option (List ℕ)) (moment : D → ℕ) (reach : D → Reach) (said : D → Option (List ℕ)) (asked : D → Option (List desk.Call)) (syncs : D → Option ℕ) (P : Language) (old new : D) (st : State) (settled turns : ℕ) : Type 0 where
   pub done : ℕ
   pub within : done ≤ turns
   pub calls : List Call
@@ -73,8 +73,10 @@ pub record EndsEarly {D : Type 0} (told_image : D → Option (List ℕ)) (moment
   pub last : List Call
   pub of_next : IsOfNext P turns done st after calls marks last
   pub told : asked new ≡ told_after (asked old) (calls ++ last)
+  -- each of the calls costs two syncs at most, and so does that of the next one, whether it was asked or not
+  pub few_syncs : SyncsWithin (syncs old) (syncs new) (2 * length calls + 2)
   pub leaves : LeavesKept moment reach said asked old new after.history settled (marks ++ marks_on after.history last)
-  pub reads : ForSome (told_image new) (IsKept after.history settled marks (length calls))
+  pub reads : ForSome (told_image new) (IsKept after.history settled (marks ++ marks_on after.history last) (length (calls ++ last)))
 
 -- a count of faults that rose so often
 abbrev pub Raised : ℕ → ℕ → ℕ → Type 0

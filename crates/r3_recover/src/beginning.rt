@@ -8,6 +8,7 @@ ghost use Rattle.r3_entry.specs.Image.{IsHistoryOf};
 ghost use Rattle.r3_store.specs.Holds.{Holds};
 ghost use Rattle.r3_store.specs.Opened.{Opens};
 ghost use Rattle.r3_model.specs.Acts.{program_entry};
+ghost use Rattle.r3_exec.specs.Does.{SyncsWithin};
 ghost use Rattle.r3_recover.specs.Opened.{HasOpened, IsHalted};
 ghost use Rattle.r3_recover.specs.Recovering.{IsTaken};
 
@@ -80,6 +81,7 @@ pub fn begin_exec<D: Desk>(
         LeavesImage D.moment D.reach D.may_leave D.said D.asked from desk.new (IsHistoryOf []) }
     ensures reads { ForSome (D.image desk.new) (IsHistoryOf []) }
     ensures program { IfOk result (λ exec. exec.program ≡ program) }
+    ensures few_syncs { SyncsWithin (D.syncs desk.old) (D.syncs desk.new) 1 }
     ensures halted { IfErr result IsHalted }
     ensures disk { IsErrOf result StartFault.Disk → Rose (D.disk_faults desk.old) (D.disk_faults desk.new) }
     ensures no_fault { (IsErrOf result StartFault.Disk → ⊥) → D.disk_faults desk.new ≡ D.disk_faults desk.old }

@@ -47,10 +47,11 @@ fn dequeue_next<D: Desk>(
         MatchResult result
         (λ done. Point D.size D.image D.may_leave D.moment D.reach D.said D.asked D.syncs
         from desk.new exec.new st k turns (Queues names) round.new.left round.new.changed)
-        (λ fault. EndsEarly D.image D.moment D.reach D.said D.asked (language exec.old) from desk.new st k turns) }
+        (λ fault. EndsEarly D.image D.moment D.reach D.said D.asked D.syncs (language exec.old) from desk.new st k turns) }
     ensures fewer { round.new.left ≤ round.old.left }
     ensures counted { OnOk result (round.new.left < round.old.left) }
     ensures program { exec.new.program ≡ exec.old.program }
+    ensures syncs { D.syncs desk.new ≡ D.syncs desk.old }
     ensures disk { IsErrOf result ExecFault.Disk → Rose (D.disk_faults desk.old) (D.disk_faults desk.new) }
     ensures no_fault { (IsErrOf result ExecFault.Disk → ⊥) → D.disk_faults desk.new ≡ D.disk_faults desk.old }
     ensures ask_faults { D.ask_faults desk.new ≡ D.ask_faults desk.old }
@@ -87,10 +88,11 @@ pub fn dequeue_each<D: Desk>(
         from desk.new exec.new st k turns (Queues []) round.new.left round.new.changed)
         × (all ≡ false → DoesDrain D.size D.image D.may_leave D.moment D.reach D.said D.asked D.syncs
         from desk.new exec.new st k turns (Spent turns)))
-        (λ fault. EndsEarly D.image D.moment D.reach D.said D.asked (language exec.old) from desk.new st k turns) }
+        (λ fault. EndsEarly D.image D.moment D.reach D.said D.asked D.syncs (language exec.old) from desk.new st k turns) }
     ensures fewer { round.new.left ≤ round.old.left }
     ensures counted { OnOk result (round.new.changed ≡ true → round.old.changed ≡ false → round.new.left < round.old.left) }
     ensures program { exec.new.program ≡ exec.old.program }
+    ensures syncs { D.syncs desk.new ≡ D.syncs desk.old }
     ensures disk { IsErrOf result ExecFault.Disk → Rose (D.disk_faults desk.old) (D.disk_faults desk.new) }
     ensures no_fault { (IsErrOf result ExecFault.Disk → ⊥) → D.disk_faults desk.new ≡ D.disk_faults desk.old }
     ensures ask_faults { D.ask_faults desk.new ≡ D.ask_faults desk.old }

@@ -1,9 +1,10 @@
 //! Drains.
 
-ghost use Rattle.std.specs.Prelude.{◌≡◌, ◌≤◌, ◌<◌, ℕ, [], map, None, Ok, false, true, IfOk, OnErr, IsErrOf, MatchOption, MatchResult};
+ghost use Rattle.std.specs.Prelude.{◌≡◌, ◌-◌, ◌*◌, ◌≤◌, ◌<◌, ℕ, [], map, None, Ok, false, true, IfOk, OnOk, OnErr, IsErrOf, MatchOption, MatchResult};
 ghost use Rattle.r3_desk.specs.Causes.{Rose};
 ghost use Rattle.r3_model.specs.Language.{Queue};
 ghost use Rattle.r3_model.specs.Machine.{State};
+ghost use Rattle.r3_exec.specs.Does.{SyncsWithin};
 ghost use Rattle.r3_exec.specs.Runs.{Runs, language};
 ghost use Rattle.r3_recover.specs.Drained.{DoesDrain, EndsEarly, Raised};
 ghost use Rattle.r3_recover.specs.Ends.{drain_reply};
@@ -43,10 +44,12 @@ fn give_turns<D: Desk, L: Ledger>(
         from desk.new exec.new st k turns (Queues (map (λ (q : Queue). q.name) (language exec.old).queues)) round.new.left false)
         (λ e. DoesDrain D.size D.image D.may_leave D.moment D.reach D.said D.asked D.syncs
         from desk.new exec.new st k turns (drain_reply e)))
-        (λ fault. EndsEarly D.image D.moment D.reach D.said D.asked (language exec.old) from desk.new st k turns) }
+        (λ fault. EndsEarly D.image D.moment D.reach D.said D.asked D.syncs (language exec.old) from desk.new st k turns) }
     ensures fewer { round.new.left ≤ round.old.left }
     ensures counted { result ≡ Ok None → round.old.changed ≡ false → round.new.left < round.old.left }
     ensures program { exec.new.program ≡ exec.old.program }
+    ensures few_syncs { SyncsWithin (D.syncs desk.old) (D.syncs desk.new) (2 * round.old.left) }
+    ensures counted_syncs { OnOk result (SyncsWithin (D.syncs desk.old) (D.syncs desk.new) (2 * (round.old.left - round.new.left))) }
     ensures disk { IsErrOf result ExecFault.Disk → Rose (D.disk_faults desk.old) (D.disk_faults desk.new) }
     ensures no_fault { (IsErrOf result ExecFault.Disk → ⊥) → D.disk_faults desk.new ≡ D.disk_faults desk.old }
     ensures ask_faults { (n : ℕ) × Raised n (D.ask_faults desk.old) (D.ask_faults desk.new) }
@@ -99,9 +102,11 @@ fn go_round<D: Desk, L: Ledger>(
         from desk.new exec.new st k turns (Queues queues.now) left.new false)
         (λ e. DoesDrain D.size D.image D.may_leave D.moment D.reach D.said D.asked D.syncs
         from desk.new exec.new st k turns (drain_reply e)))
-        (λ fault. EndsEarly D.image D.moment D.reach D.said D.asked (language exec.old) from desk.new st k turns) }
+        (λ fault. EndsEarly D.image D.moment D.reach D.said D.asked D.syncs (language exec.old) from desk.new st k turns) }
     ensures fewer { result ≡ Ok None → left.new < left.old }
     ensures program { exec.new.program ≡ exec.old.program }
+    ensures few_syncs { SyncsWithin (D.syncs desk.old) (D.syncs desk.new) (2 * left.old) }
+    ensures counted_syncs { OnOk result (SyncsWithin (D.syncs desk.old) (D.syncs desk.new) (2 * (left.old - left.new))) }
     ensures disk { IsErrOf result ExecFault.Disk → Rose (D.disk_faults desk.old) (D.disk_faults desk.new) }
     ensures no_fault { (IsErrOf result ExecFault.Disk → ⊥) → D.disk_faults desk.new ≡ D.disk_faults desk.old }
     ensures ask_faults { (n : ℕ) × Raised n (D.ask_faults desk.old) (D.ask_faults desk.new) }
@@ -142,7 +147,10 @@ pub fn drain<D: Desk, L: Ledger>(
 
     // Where it ends early, a crash leaves a prefix of what the machine has come to, and so reads the disk.
     ensures early { (st : State) (k : ℕ) → Runs D.size D.image D.may_leave desk.old exec.old st k →
-        OnErr result (EndsEarly D.image D.moment D.reach D.said D.asked (language exec.old) desk.old desk.new st k turns) }
+        OnErr result (EndsEarly D.image D.moment D.reach D.said D.asked D.syncs (language exec.old) desk.old desk.new st k turns) }
+
+    // It has as many calls as turns at most, and nothing else costs a sync.
+    ensures few_syncs { SyncsWithin (D.syncs desk.old) (D.syncs desk.new) (2 * turns) }
     ensures disk { IsErrOf result ExecFault.Disk → Rose (D.disk_faults desk.old) (D.disk_faults desk.new) }
     ensures no_fault { (IsErrOf result ExecFault.Disk → ⊥) → D.disk_faults desk.new ≡ D.disk_faults desk.old }
     ensures ask_faults { (n : ℕ) × Raised n (D.ask_faults desk.old) (D.ask_faults desk.new) }

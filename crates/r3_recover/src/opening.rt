@@ -8,6 +8,7 @@ ghost use Rattle.r3_desk.specs.Moments.{LeavesImage};
 ghost use Rattle.r3_entry.specs.declared.entry.Entry.{Entry};
 ghost use Rattle.r3_entry.specs.Image.{IsHistoryOf};
 ghost use Rattle.r3_store.specs.Holds.{Stands};
+ghost use Rattle.r3_exec.specs.Does.{SyncsWithin};
 ghost use Rattle.r3_recover.specs.Opened.{HasOpened, HasProgram, HasCause, IsHalted};
 ghost use Rattle.r3_recover.specs.Recovering.{IsTaken, told_fault};
 
@@ -71,6 +72,8 @@ fn take_up<D: Desk>(
     ensures other_kept { result ≡ Err StartFault.Other → D.image desk.new ≡ D.image desk.old }
     ensures not_store { (fault : _) → result ≡ Err (StartFault.Store fault) → ⊥ }
     ensures program { IfOk result (λ exec. exec.program ≡ program) }
+    ensures few_syncs { SyncsWithin (D.syncs desk.old) (D.syncs desk.new) 1 }
+    ensures other_syncs { result ≡ Err StartFault.Other → D.syncs desk.new ≡ D.syncs desk.old }
     ensures other { (h : List Entry) → Stands store h → (HasProgram h text.now → ⊥) → result ≡ Err StartFault.Other }
     ensures opens { (h : List Entry) → Stands store h → HasProgram h text.now → IfErr result IsHalted }
     ensures disk { IsErrOf result StartFault.Disk → Rose (D.disk_faults desk.old) (D.disk_faults desk.new) }
@@ -123,6 +126,11 @@ pub fn open_exec<D: Desk>(
         ForSome (D.image desk.new) (IsHistoryOf h)) }
     ensures kept { (fault : _) → result ≡ Err (StartFault.Store fault) → D.image desk.new ≡ D.image desk.old }
     ensures other_kept { result ≡ Err StartFault.Other → D.image desk.new ≡ D.image desk.old }
+
+    // The header of a new file costs a sync, and nothing else does.
+    ensures few_syncs { SyncsWithin (D.syncs desk.old) (D.syncs desk.new) 1 }
+    ensures store_syncs { (fault : _) → result ≡ Err (StartFault.Store fault) → D.syncs desk.new ≡ D.syncs desk.old }
+    ensures other_syncs { result ≡ Err StartFault.Other → D.syncs desk.new ≡ D.syncs desk.old }
     ensures disk { IsErrOf result StartFault.Disk → Rose (D.disk_faults desk.old) (D.disk_faults desk.new) }
     ensures no_fault { (IsErrOf result StartFault.Disk → ⊥) → D.disk_faults desk.new ≡ D.disk_faults desk.old }
     ensures said { D.said desk.new ≡ D.said desk.old }

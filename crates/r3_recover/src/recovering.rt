@@ -56,6 +56,7 @@ fn recover_next<D: Desk>(
         Recovers D.size D.image D.may_leave D.moment D.reach D.said D.asked D.syncs
         from desk.old exec.old h (id.now ∷ ids) → ForSome (D.image desk.new) (IsHistoryOf h) }
     ensures program { exec.new.program ≡ exec.old.program }
+    ensures syncs { D.syncs desk.new ≡ D.syncs desk.old }
     ensures disk { IsErrOf result ExecFault.Disk → Rose (D.disk_faults desk.old) (D.disk_faults desk.new) }
     ensures no_fault { (IsErrOf result ExecFault.Disk → ⊥) → D.disk_faults desk.new ≡ D.disk_faults desk.old }
     ensures said { D.said desk.new ≡ D.said desk.old }
@@ -97,6 +98,7 @@ fn recover_each<D: Desk>(
         Recovers D.size D.image D.may_leave D.moment D.reach D.said D.asked D.syncs
         from desk.old exec.old h ids.now → ForSome (D.image desk.new) (IsHistoryOf h) }
     ensures program { exec.new.program ≡ exec.old.program }
+    ensures syncs { D.syncs desk.new ≡ D.syncs desk.old }
     ensures disk { IsErrOf result ExecFault.Disk → Rose (D.disk_faults desk.old) (D.disk_faults desk.new) }
     ensures no_fault { (IsErrOf result ExecFault.Disk → ⊥) → D.disk_faults desk.new ≡ D.disk_faults desk.old }
     ensures said { D.said desk.new ≡ D.said desk.old }
@@ -134,6 +136,7 @@ pub fn recover_exec<D: Desk>(
         IsTaken D.size D.image D.may_leave D.moment D.reach D.said D.asked D.syncs from desk.old store h →
         h ≢ [] → ForSome (D.image desk.new) (IsHistoryOf h) }
     ensures program { IfOk result (λ exec. exec.program ≡ program) }
+    ensures syncs { D.syncs desk.new ≡ D.syncs desk.old }
     ensures halted { IfErr result IsHalted }
     ensures disk { IsErrOf result StartFault.Disk → Rose (D.disk_faults desk.old) (D.disk_faults desk.new) }
     ensures no_fault { (IsErrOf result StartFault.Disk → ⊥) → D.disk_faults desk.new ≡ D.disk_faults desk.old }

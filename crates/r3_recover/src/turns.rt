@@ -1,11 +1,12 @@
 //! The turns of a round.
 
-ghost use Rattle.std.specs.Prelude.{◌≡◌, ◌∷◌, ◌≤◌, ◌<◌, ℕ, List, [], true, false, MatchResult, IsErrOf, OnOk};
+ghost use Rattle.std.specs.Prelude.{◌≡◌, ◌-◌, ◌*◌, ◌∷◌, ◌≤◌, ◌<◌, ℕ, List, [], true, false, MatchResult, IsErrOf, OnOk};
 ghost use Rattle.r3_desk.specs.Causes.{Rose};
 ghost use Rattle.r3_model.specs.Drain.{changes};
 ghost use Rattle.r3_model.specs.Event.{Spent};
 ghost use Rattle.r3_model.specs.Language.{Text};
 ghost use Rattle.r3_model.specs.Machine.{State};
+ghost use Rattle.r3_exec.specs.Does.{SyncsWithin};
 ghost use Rattle.r3_exec.specs.Runs.{language};
 ghost use Rattle.r3_exec.specs.Ends.{turn_reply};
 ghost use Rattle.r3_recover.specs.Drained.{DoesDrain, EndsEarly, Raised};
@@ -51,10 +52,11 @@ fn turn_next<D: Desk, L: Ledger>(
         MatchResult result
         (λ done. Point D.size D.image D.may_leave D.moment D.reach D.said D.asked D.syncs
         from desk.new exec.new st k turns (Turns ids) round.new.left round.new.changed)
-        (λ fault. EndsEarly D.image D.moment D.reach D.said D.asked (language exec.old) from desk.new st k turns) }
+        (λ fault. EndsEarly D.image D.moment D.reach D.said D.asked D.syncs (language exec.old) from desk.new st k turns) }
     ensures fewer { round.new.left ≤ round.old.left }
     ensures counted { OnOk result (round.new.left < round.old.left) }
     ensures program { exec.new.program ≡ exec.old.program }
+    ensures few_syncs { SyncsWithin (D.syncs desk.old) (D.syncs desk.new) 2 }
     ensures disk { IsErrOf result ExecFault.Disk → Rose (D.disk_faults desk.old) (D.disk_faults desk.new) }
     ensures no_fault { (IsErrOf result ExecFault.Disk → ⊥) → D.disk_faults desk.new ≡ D.disk_faults desk.old }
     ensures ask_faults { (n : ℕ) × Raised n (D.ask_faults desk.old) (D.ask_faults desk.new) }
@@ -93,10 +95,14 @@ pub fn turn_each<D: Desk, L: Ledger>(
         from desk.new exec.new st k turns (Turns []) round.new.left round.new.changed)
         × (all ≡ false → DoesDrain D.size D.image D.may_leave D.moment D.reach D.said D.asked D.syncs
         from desk.new exec.new st k turns (Spent turns)))
-        (λ fault. EndsEarly D.image D.moment D.reach D.said D.asked (language exec.old) from desk.new st k turns) }
+        (λ fault. EndsEarly D.image D.moment D.reach D.said D.asked D.syncs (language exec.old) from desk.new st k turns) }
     ensures fewer { round.new.left ≤ round.old.left }
     ensures counted { OnOk result (round.new.changed ≡ true → round.old.changed ≡ false → round.new.left < round.old.left) }
     ensures program { exec.new.program ≡ exec.old.program }
+
+    // Each turn that was taken costs two syncs at most.
+    ensures few_syncs { SyncsWithin (D.syncs desk.old) (D.syncs desk.new) (2 * round.old.left) }
+    ensures counted_syncs { OnOk result (SyncsWithin (D.syncs desk.old) (D.syncs desk.new) (2 * (round.old.left - round.new.left))) }
     ensures disk { IsErrOf result ExecFault.Disk → Rose (D.disk_faults desk.old) (D.disk_faults desk.new) }
     ensures no_fault { (IsErrOf result ExecFault.Disk → ⊥) → D.disk_faults desk.new ≡ D.disk_faults desk.old }
     ensures ask_faults { (n : ℕ) × Raised n (D.ask_faults desk.old) (D.ask_faults desk.new) }

@@ -20,6 +20,7 @@ use Rattle.r3_exec.specs.Runs.{language}
 use Rattle.r3_exec.specs.declared.exec.Exec.{Exec}
 use Rattle.r3_serve.specs.Served.{Loud, Served, Stopped}
 use Rattle.r3_serve.specs.Scripted.{StoppedIn, script_lines, ended_script_lines}
+use Rattle.r3_serve.specs.Failed.{ReplyFailed, ReplyFailedIn}
 
 -- the machine's lines of some lines
 abbrev pub read_all : List Text → List Line
@@ -215,4 +216,30 @@ module _ {D : Type 0} (told_size : D → Option ℕ) (told_image : D → Option 
             subst (λ (L : Language). Stopped told_image moment reach said asked from new L Loud text h (lines ++ read_all going.handed) (forms.line_of line)) same
                 (stopped from text h (lines ++ read_all going.handed) (going.serves from text h lines s)),
           );
+        }
+
+    -- the next line was handed out, and its reply failed to be said
+    pub fails-within : (going : Went) (b : Bool) → b ≡ true → Answers left left' reader' going.given going.handed (Ok b) → EndsWith (has_ended reader') ended' left'
+        → (line : Text) → line ≡ line_of reader' → (new : D)
+        → ((from : D) (text : Text) (h : List Entry) (lines : List Line) → ServedAt from now exec text h lines
+        → ReplyFailed told_image may_leave moment reach said asked from new (language exec) text h lines (forms.line_of line))
+        → (from : D) (text : Text) (h : List Entry) (lines : List Line) (script : Text) → ServedAt from old first text h lines → left0 ≡ Some script
+        → ReplyFailedIn told_image may_leave moment reach said asked from new (language first) text h lines script
+    fails-within going b on answers ends line is new failed from text h lines script s at =
+        let all : Answers left left' reader' going.given going.handed (Ok true) = subst (λ (x : Bool). Answers left left' reader' going.given going.handed (Ok x)) on answers in
+        let given : Text = going.given ++ all.more in
+        let consumed : Consumes (Some script) left' given = subst (λ (l : Option Text). Consumes l left' given) at (Consumes-trans left0 left left' going.given all.more going.consumed all.consumed) in
+        let p = prefix-of reader' given (with_line going.handed reader') ended' left' script (has_ended reader') refl all.answered.reads ends consumed in
+        let line_is : forms.line_of line ≡ forms.line_of (line_of reader') = ap (λ (t : Text). forms.line_of t) is in
+        let same : language exec ≡ language first = ap (λ is. language_of is) going.program in
+        record {
+          done = read_all going.handed;
+          line = forms.line_of line;
+          later = read_all p.0;
+          of_script =
+              ap (λ (ls : List Text). read_all ls) (p.1 ∙ append_assoc going.handed (line_of reader' ∷ []) p.0)
+              ∙ map-append forms.line_of going.handed (line_of reader' ∷ p.0)
+              ∙ ap (λ (l : Line). read_all going.handed ++ l ∷ read_all p.0) (sym line_is);
+          failed = subst (λ (L : Language). ReplyFailed told_image may_leave moment reach said asked from new L text h (lines ++ read_all going.handed) (forms.line_of line)) same
+              (failed from text h (lines ++ read_all going.handed) (going.serves from text h lines s));
         }

@@ -21,11 +21,13 @@ use Rattle.r3_recover.specs.Kept.{marks_on}
 use Rattle.r3_session.specs.Answered.{StopsLine}
 use Rattle.r3_serve.specs.Held.{IsHeld, LeavesHeld}
 use Rattle.r3_serve.specs.Served.{Voice, Loud, said_of, marks_of, Served, Stopped}
+use Rattle.r3_serve.specs.Failed.{ReplyFailed}
+use Rattle.r3_serve.proofs.Owing.{AreWithin}
 use Rattle.r3_serve.proofs.Voices.{marks-more, marks-asked}
 use Rattle.r3_serve.proofs.Telling.{push-append, told-append}
-use Rattle.r3_serve.proofs.Calling.{Facts, facts, part-grows, part-whole}
+use Rattle.r3_serve.proofs.Calling.{Facts, facts, calls-more, part-grows, part-whole}
 use Rattle.r3_serve.proofs.Leaving.{AreSure, held-kept, held-all, kept-voice}
-use Rattle.r3_serve.proofs.Serving.{Went, CrashLaw, sure-of, leaves-line, leaves-said}
+use Rattle.r3_serve.proofs.Serving.{Went, CrashLaw, sure-of, leaves-line, whole-left, leaves-said}
 
 module _ {D : Type 0} (told_size : D → Option ℕ) (told_image : D → Option (List ℕ)) (may_leave : D → List ℕ → Type 0) (moment : D → ℕ) (reach : D → Reach) (said : D → Option (List ℕ)) (asked : D → Option (List desk.Call)) (syncs : D → Option ℕ) where
   abbrev ServedAt : D → D → Exec → Voice → Text → List Entry → List Line → Type 0
@@ -41,7 +43,7 @@ module _ {D : Type 0} (told_size : D → Option ℕ) (told_image : D → Option 
 
   pub stopped : OnlyAppends → DrainsByTurns → (from mid new : D) (exec : Exec) (v : Voice) (text : Text) (h : List Entry) (lines : List Line) (line : Line)
       → said new ≡ said mid → (s : ServedAt from mid exec v text h lines)
-      → StopsLine told_image moment reach said asked (language exec) mid new s.after line → StoppedAt from new (language exec) v text h lines line
+      → StopsLine told_image moment reach said asked syncs (language exec) mid new s.after line → StoppedAt from new (language exec) v text h lines line
   stopped appends drains from mid new exec v text h lines line same s t =
       let P : Language = language exec in
       let f : Facts h s.after s.calls s.marks s.replies = facts appends drains P text h lines s.after s.calls s.marks s.replies s.machine in
@@ -68,10 +70,10 @@ module _ {D : Type 0} (told_size : D → Option ℕ) (told_image : D → Option 
         leaves = subst (λ (ms : List Mark). LeavesHeld moment reach said asked from new t.after.history (length h) (marks_of v (s.marks ++ (t.marks ++ ms)))) none
             (leaves-line told_size told_image may_leave moment reach said asked syncs appends drains from mid new exec v text h lines s t.after grows.0 (t.calls ++ t.last) (t.marks ++ more) grows.1 same t.told t.leaves);
         reads = λ image told.
-            subst (λ (ms : List Mark). IsHeld t.after.history (length h) ms (length (said_of v s.replies)) (length (s.calls ++ t.calls)) image) (sym (marks-more v s.marks t.marks))
-            (held-kept s.after.history t.after.history (length h) (marks_of v s.marks) (marks_of v t.marks) (length (said_of v s.replies)) (length (s.calls ++ t.calls)) (length t.calls) image
-            sure.no_less sure.within sure.said (omega (arith, length-append s.calls t.calls, marks-asked v s.marks, f.asked))
-            (kept-voice v t.after.history (length s.after.history) t.marks (length t.calls) image (t.reads image told)));
+            subst (λ (ms : List Mark). IsHeld t.after.history (length h) ms (length (said_of v s.replies)) (length (s.calls ++ (t.calls ++ t.last))) image) (sym (marks-more v s.marks (t.marks ++ more)))
+            (held-kept s.after.history t.after.history (length h) (marks_of v s.marks) (marks_of v (t.marks ++ more)) (length (said_of v s.replies)) (length (s.calls ++ (t.calls ++ t.last))) (length (t.calls ++ t.last)) image
+            sure.no_less sure.within sure.said (omega (arith, length-append s.calls (t.calls ++ t.last), marks-asked v s.marks, f.asked))
+            (kept-voice v t.after.history (length s.after.history) (t.marks ++ more) (length (t.calls ++ t.last)) image (t.reads image told)));
         whole = λ some. absurd (some refl);
       }
 
@@ -110,6 +112,36 @@ module _ {D : Type 0} (told_size : D → Option ℕ) (told_image : D → Option 
         told = says ∙ ap (λ (o : Option Text). told_push o (take k out)) w.told ∙ push-append (said from) (said_of Loud w.replies) (take k out);
         asks = same ∙ w.asks ∙ ap (λ (cs : List Call). told_after (asked from) (w.calls ++ cs)) none;
         leaves = leaves-said told_size told_image may_leave moment reach said asked syncs crash from mid new exec text h lines line out (take k out) w says same pending goes;
-        reads = λ c told. held-all w.after.history (length h) (w.marks ++ w.made) (length (said_of Loud w.replies)) (length (w.calls ++ w.more)) c w.sure.no_less w.sure.within (all c told);
+        reads = λ c told. held-all w.after.history (length h) (w.marks ++ (w.made ++ [])) (length (said_of Loud w.replies)) (length (w.calls ++ (w.more ++ []))) c w.sure.no_less
+            (subst (λ (ms : List Mark). AreWithin (length w.after.history) (w.marks ++ ms)) (sym (append-nil w.made)) w.sure.within) (all c told);
         whole = λ some. all;
+      })
+
+  -- of its reply this much was said, where its saying failed
+  pub reply-failed : CrashLaw told_size told_image may_leave moment reach said asked syncs → ReadLaw
+      → (from mid new : D) (exec : Exec) (P : Language) (text : Text) (h : List Entry) (lines : List Line) (line : Line) (out : Text) (k : ℕ)
+      → language exec ≡ P
+      → said new ≡ told_push (said mid) (take k out) → asked new ≡ asked mid → told_image new ≡ told_image mid
+      → ((c : List ℕ) → may_leave new c → may_leave mid c) → GoesOn moment reach may_leave said asked mid new
+      → WentAt from mid exec Loud text h lines line out → ReplyFailed told_image may_leave moment reach said asked from new P text h lines line
+  reply-failed crash reads from mid new exec P text h lines line out k is says same image pending goes w =
+      let mark : List Mark = Said (length (reply_text w.reply)) (length w.after.history) ∷ [] in
+      subst (λ (L : Language). ReplyFailed told_image may_leave moment reach said asked from new L text h lines line) is
+      (record {
+        calls = w.calls ++ w.more;
+        marks = w.marks ++ (w.made ++ mark);
+        after = w.after;
+        replies = w.replies;
+        reply = w.reply;
+        machine = calls-more (language exec) text h lines line w.before w.after w.calls w.more w.marks w.made w.replies w.reply w.machine w.goes;
+        part = take k out;
+        rest = drop k out;
+        of_reply = take-append-drop k out ∙ w.out_is;
+        told = says ∙ ap (λ (o : Option Text). told_push o (take k out)) w.told ∙ push-append (said from) (said_of Loud w.replies) (take k out);
+        asks = same ∙ w.asks;
+        stored = λ c told.
+            subst (λ (es : List Entry). IsHistoryOf es c) (take_all (length w.after.history) w.after.history (omega arith))
+            (reads mid exec.store w.after.history (length w.after.history) c w.runs.holds (sym image ∙ told));
+        settled = λ c left. whole-left told_size told_image may_leave moment reach said asked syncs crash mid exec w.after w.runs c (pending c left);
+        leaves = leaves-said told_size told_image may_leave moment reach said asked syncs crash from mid new exec text h lines line out (take k out) w says same pending goes;
       })

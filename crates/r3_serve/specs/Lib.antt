@@ -1,3 +1,4 @@
 pub mod Held
 pub mod Served
 pub mod Scripted
+pub mod Failed

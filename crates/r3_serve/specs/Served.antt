@@ -89,6 +89,6 @@ pub record Stopped {D : Type 0} (told_image : D → Option (List ℕ)) (moment :
   pub told : said now ≡ told_push (said from) (said_of voice replies ++ said_part)
   pub asks : asked now ≡ told_after (asked from) (calls ++ (part_calls ++ last))
   pub leaves : LeavesHeld moment reach said asked from now after.history (length h) (marks_of voice (marks ++ (part_marks ++ (marks_on after.history last ++ owes))))
-  pub reads : ForSome (told_image now) (IsHeld after.history (length h) (marks_of voice (marks ++ part_marks)) (length (said_of voice replies)) (length (calls ++ part_calls)))
+  pub reads : ForSome (told_image now) (IsHeld after.history (length h) (marks_of voice (marks ++ (part_marks ++ marks_on after.history last))) (length (said_of voice replies)) (length (calls ++ (part_calls ++ last))))
   -- where the reply of a whole line failed to be said, a read gives all
   pub whole : (owes ≡ [] → ⊥) → ForSome (told_image now) (IsHistoryOf after.history)

@@ -8,6 +8,7 @@ ghost use Rattle.r3_model.specs.Language.{Text};
 ghost use Rattle.r3_model.specs.Script.{Line as L};
 ghost use Rattle.r3_exec.specs.Runs.{language};
 ghost use Rattle.r3_lines.specs.Lines.{as_line, IsKept};
+ghost use Rattle.r3_serve.specs.Failed.{ReplyFailed};
 ghost use Rattle.r3_serve.specs.Served.{Voice, Loud, Quiet, Served, Stopped};
 
 use crate::fault::ServeFault;
@@ -35,6 +36,12 @@ pub fn serve<D: Desk>(
     ensures stops { (from : D) (text : Text) (h : List Entry) (lines : List L) →
         Served D.size D.image D.may_leave D.moment D.reach D.said D.asked from desk.old session.old.exec Loud text h lines →
         OnErr result (Stopped D.image D.moment D.reach D.said D.asked from desk.new (language session.old.exec) Loud text h lines (as_line line.now)) }
+
+    // Each reply before was said whole and in order, of this one a first part, and nothing else.
+    ensures say_whole { (from : D) (text : Text) (h : List Entry) (lines : List L) →
+        Served D.size D.image D.may_leave D.moment D.reach D.said D.asked from desk.old session.old.exec Loud text h lines →
+        IsErrOf result ServeFault.Say →
+        ReplyFailed D.image D.may_leave D.moment D.reach D.said D.asked from desk.new (language session.old.exec) text h lines (as_line line.now) }
     ensures program { session.new.exec.program ≡ session.old.exec.program }
     ensures on_ok { OnOk result (session.new.failed ≡ false) }
     ensures disk { IsErrOf result ServeFault.Disk → Rose (D.disk_faults desk.old) (D.disk_faults desk.new) }
@@ -73,6 +80,12 @@ pub fn serve_line<D: Desk>(
     ensures stops { (from : D) (text : Text) (h : List Entry) (lines : List L) →
         Served D.size D.image D.may_leave D.moment D.reach D.said D.asked from desk.old session.old.exec Loud text h lines →
         OnErr result (Stopped D.image D.moment D.reach D.said D.asked from desk.new (language session.old.exec) Loud text h lines (line_of line.now)) }
+
+    // Each reply before was said whole and in order, of this one a first part, and nothing else.
+    ensures say_whole { (from : D) (text : Text) (h : List Entry) (lines : List L) →
+        Served D.size D.image D.may_leave D.moment D.reach D.said D.asked from desk.old session.old.exec Loud text h lines →
+        IsErrOf result ServeFault.Say →
+        ReplyFailed D.image D.may_leave D.moment D.reach D.said D.asked from desk.new (language session.old.exec) text h lines (line_of line.now) }
     ensures program { session.new.exec.program ≡ session.old.exec.program }
     ensures on_ok { OnOk result (session.new.failed ≡ false) }
     ensures disk { IsErrOf result ServeFault.Disk → Rose (D.disk_faults desk.old) (D.disk_faults desk.new) }

@@ -6,6 +6,8 @@ ghost use Rattle.r3_desk.specs.Causes.{Rose};
 ghost use Rattle.r3_entry.specs.declared.entry.Entry.{Entry};
 ghost use Rattle.r3_model.specs.Language.{Text};
 ghost use Rattle.r3_model.specs.Script.{Line as L};
+ghost use Rattle.r3_exec.specs.Runs.{language};
+ghost use Rattle.r3_serve.specs.Failed.{ReplyFailedIn};
 ghost use Rattle.r3_serve.specs.Served.{Loud, Served};
 ghost use Rattle.r3_serve.specs.Scripted.{StoppedIn, script_lines, ended_script_lines};
 
@@ -47,6 +49,12 @@ pub fn serve_script<D: Desk, S: Source>(
         Served D.size D.image D.may_leave D.moment D.reach D.said D.asked from desk.old session.old.exec Loud text h lines →
         S.left source.old ≡ Some script →
         OnErr result (StoppedIn D.size D.image D.may_leave D.moment D.reach D.said D.asked from desk.new session.new.exec text h lines script) }
+
+    // Where the reply of some line failed to be said, each one before was said whole and in order, and nothing else was.
+    ensures say_whole { (from : D) (text : Text) (h : List Entry) (lines : List L) (script : Text) →
+        Served D.size D.image D.may_leave D.moment D.reach D.said D.asked from desk.old session.old.exec Loud text h lines →
+        S.left source.old ≡ Some script → IsErrOf result ScriptStop.Say →
+        ReplyFailedIn D.image D.may_leave D.moment D.reach D.said D.asked from desk.new (language session.old.exec) text h lines script }
     ensures program { session.new.exec.program ≡ session.old.exec.program }
     ensures ended { OnOk result (S.ended source.new ≡ true) }
     ensures disk { IsErrOf result ScriptStop.Disk → Rose (D.disk_faults desk.old) (D.disk_faults desk.new) }

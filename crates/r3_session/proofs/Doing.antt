@@ -26,7 +26,7 @@ use Rattle.r3_recover.specs.Rounds.{AreWithin}
 use Rattle.r3_session.specs.Answered.{AnswersTo, DoesLine, IsPart, IsUntouched, StopsLine}
 use Rattle.r3_session.specs.Done.{DoesEvents}
 use Rattle.r3_session.proofs.Drains.{drain-settles, drains-none}
-use Rattle.r3_session.proofs.Leaving.{few-more, few-then, kept-all, kept-read, kept-whole, leaves-event, leaves-nothing, leaves-settled, no-syncs, read-whole, told-more, told-none}
+use Rattle.r3_session.proofs.Leaving.{few-more, few-then, none-more, kept-all, kept-read, kept-whole, leaves-event, leaves-nothing, leaves-settled, no-syncs, read-whole, told-more, told-none}
 use Rattle.r3_session.proofs.Marks.{AreSettled, settled-on, within-on}
 use Rattle.r3_session.proofs.Nexts.{steps-answer}
 
@@ -92,7 +92,7 @@ module _ {D : Type 0} (told_size : D → Option ℕ) (told_image : D → Option 
   DoneTo old new exec st line reply = DoesEvents told_size told_image may_leave moment reach said asked syncs old new exec st line reply
 
   abbrev StoppedAt : Language → D → D → State → Line → Type 0
-  StoppedAt P old new st line = StopsLine told_image moment reach said asked P old new st line
+  StoppedAt P old new st line = StopsLine told_image moment reach said asked syncs P old new st line
 
   abbrev DoesOne : D → D → Exec → State → Event → Reply → Type 0
   DoesOne old new exec st ev reply = done.Does told_size told_image may_leave asked syncs old new exec st (length st.history) ev reply
@@ -126,8 +126,9 @@ module _ {D : Type 0} (told_size : D → Option ℕ) (told_image : D → Option 
   pub event-stops : (P : Language) (old new : D) (st : State) (ev : Event)
       → done.AskedFirst P st ev (asked old) (asked new) → done.Leaves moment reach said asked old new st.history (length st.history)
       → ForSome (told_image new) (done.IsRead st.history (length st.history))
+      → done.SyncsWithin (syncs old) (syncs new) 2
       → StoppedAt P old new st (script.Does ev)
-  event-stops P old new st ev first leaves reads =
+  event-stops P old new st ev first leaves reads few =
       let last : List Call = take first.1 (calls_of P st.history ev first.0) in
       record {
         calls = [];
@@ -136,9 +137,11 @@ module _ {D : Type 0} (told_size : D → Option ℕ) (told_image : D → Option 
         last = last;
         part = inl ((refl, refl, refl), first.0, first.1, refl);
         told = first.2;
+        few_syncs = few-more (syncs old) (syncs new) 2 (2 + 2 * length last) (omega arith) few;
         leaves = subst (λ (h : List Entry). LeavesKept moment reach said asked old new h (length st.history) (marks_on st.history last)) (append-nil st.history)
             (leaves-event may_leave moment reach said asked old new st.history [] (marks_on st.history last) (one-settles st.history last) leaves);
-        reads = λ image told. kept-whole st.history 0 image (read-whole st.history image (reads image told));
+        reads = λ image told. subst (λ (h : List Entry). IsKept h (length st.history) (marks_on st.history last) (length last) image) (append-nil st.history)
+            (kept-all st.history [] (length st.history) (marks_on st.history last) (length last) image (one-settles st.history last) (read-whole st.history image (reads image told)));
       }
 
   -- an event that asks nothing
@@ -155,8 +158,9 @@ module _ {D : Type 0} (told_size : D → Option ℕ) (told_image : D → Option 
     last = [];
     part = whole P line st d.after d.calls d.marks reply (subst (λ (L : Language). AnswersTo L line st d.after d.calls d.marks reply) same d.machine);
     told = d.told ∙ ap (λ (cs : List Call). done.told_after (asked old) cs) (sym (append-nil d.calls));
+    few_syncs = few-more (syncs old) (syncs new) (2 * length d.calls) (2 + 2 * length (d.calls ++ [])) (omega (arith, length-append d.calls [])) d.few_syncs;
     leaves = subst (λ (ms : List Mark). LeavesKept moment reach said asked old new d.after.history (length st.history) ms) (sym (append-nil d.marks)) d.leaves;
-    reads = d.reads;
+    reads = λ image told. none-more d.after.history (length st.history) d.marks d.calls image (d.reads image told);
   }
 
   -- ---- nothing was done
@@ -199,6 +203,7 @@ module _ {D : Type 0} (told_size : D → Option ℕ) (told_image : D → Option 
     last = [];
     part = untouched by_turns P line st;
     told = told-none (asked d);
+    few_syncs = few-more (syncs d) (syncs d) 0 2 (omega arith) (no-syncs (syncs d));
     leaves = leaves-nothing may_leave moment reach said asked d st.history counts_now only_now left;
     reads = λ image told. kept-whole st.history 0 image (read-whole st.history image (inr (read image told)));
   }
@@ -224,7 +229,7 @@ module _ {D : Type 0} (told_size : D → Option ℕ) (told_image : D → Option 
         kept = s.kept;
       }
 
-  pub drain-stops : (P : Language) (old new : D) (st : State) (turns : ℕ) → EndsEarly told_image moment reach said asked P old new st (length st.history) turns
+  pub drain-stops : (P : Language) (old new : D) (st : State) (turns : ℕ) → EndsEarly told_image moment reach said asked syncs P old new st (length st.history) turns
       → StoppedAt P old new st (script.Drain turns)
   drain-stops P old new st turns e = record {
     calls = e.calls;
@@ -233,6 +238,7 @@ module _ {D : Type 0} (told_size : D → Option ℕ) (told_image : D → Option 
     last = e.last;
     part = inl (e.done, e.within, e.machine, e.of_next);
     told = e.told;
+    few_syncs = few-more (syncs old) (syncs new) (2 * length e.calls + 2) (2 + 2 * length (e.calls ++ e.last)) (omega (arith, length-append e.calls e.last)) e.few_syncs;
     leaves = e.leaves;
     reads = e.reads;
   }
@@ -272,17 +278,20 @@ module _ {D : Type 0} (told_size : D → Option ℕ) (told_image : D → Option 
       → (d : DoneTo old mid exec st line reply)
       → done.Leaves moment reach said asked mid new d.after.history (settled_by (length st.history) d.marks)
       → ForSome (told_image new) (done.IsRead d.after.history (settled_by (length st.history) d.marks))
-      → said mid ≡ said old → asked new ≡ asked mid
+      → said mid ≡ said old → asked new ≡ asked mid → done.SyncsWithin (syncs mid) (syncs new) 2
       → StoppedAt P old new st line
-  settle-stops P old mid new exec st line reply program d leaves reads same_said same_asked = record {
+  settle-stops P old mid new exec st line reply program d leaves reads same_said same_asked few = record {
     calls = d.calls;
     marks = d.marks;
     after = d.after;
     last = [];
     part = whole P line st d.after d.calls d.marks reply (subst (λ (L : Language). AnswersTo L line st d.after d.calls d.marks reply) program d.machine);
     told = same_asked ∙ d.told ∙ ap (λ (cs : List Call). done.told_after (asked old) cs) (sym (append-nil d.calls));
+    few_syncs = few-more (syncs old) (syncs new) (2 * length d.calls + 2) (2 + 2 * length (d.calls ++ [])) (omega (arith, length-append d.calls []))
+        (few-then (syncs old) (syncs mid) (syncs new) (2 * length d.calls) 2 d.few_syncs few);
     leaves = subst (λ (ms : List Mark). LeavesKept moment reach said asked old new d.after.history (length st.history) ms) (sym (append-nil d.marks))
         (leaves-both old mid new exec st line reply d leaves same_said same_asked);
-    reads = λ image told. kept-read d.after.history (length st.history) d.marks (length d.calls) image
-        (record { no_less = d.no_less; within = d.runs.holds.within; kept = d.kept }) (reads image told);
+    reads = λ image told. none-more d.after.history (length st.history) d.marks d.calls image
+        (kept-read d.after.history (length st.history) d.marks (length d.calls) image
+        (record { no_less = d.no_less; within = d.runs.holds.within; kept = d.kept }) (reads image told));
   }

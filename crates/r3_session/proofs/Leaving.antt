@@ -54,6 +54,12 @@ pub kept-whole : (h : List Entry) (j : ℕ) (c : List ℕ) → IsHistoryOf h c �
 kept-whole h j c is =
     record { len = length h; within = omega arith; settled_kept = omega arith; owed_kept = omega arith; history_of = subst (λ (es : List Entry). IsHistoryOf es c) (sym (take-whole h)) is }
 
+-- with no further call
+pub none-more : (h : List Entry) (k : ℕ) (marks : List Mark) (calls : List Call) (c : List ℕ) → IsKept h k marks (length calls) c → IsKept h k (marks ++ []) (length (calls ++ [])) c
+none-more h k marks calls c p =
+    subst (λ (cs : List Call). IsKept h k (marks ++ []) (length cs) c) (sym (append-nil calls))
+    (subst (λ (ms : List Mark). IsKept h k ms (length calls) c) (sym (append-nil marks)) p)
+
 -- either is the whole history where all of it is settled
 pub read-whole : (h : List Entry) (c : List ℕ) → IsRead h (length h) c → IsHistoryOf h c
 read-whole h c read = ⊎_elim (λ all. all) (λ was. subst (λ (es : List Entry). IsHistoryOf es c) (take-whole h) was) read
@@ -137,3 +143,6 @@ few-more a b most higher le s = (s.0, omega (arith, le, s.1), s.2)
 pub no-syncs : (a : Option ℕ) → SyncsWithin a a 0
 no-syncs None = (0, omega arith, refl)
 no-syncs (Some n) = (0, omega arith, ap (λ (x : ℕ). Some x) (let e : n ≡ n + 0 = omega arith in e))
+
+pub syncs-same : (a b : Option ℕ) (most : ℕ) → b ≡ a → SyncsWithin a b most
+syncs-same a b most same = few-more a b 0 most (omega arith) (subst (λ (o : Option ℕ). SyncsWithin a o 0) (sym same) (no-syncs a))

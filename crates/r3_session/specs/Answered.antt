@@ -65,12 +65,14 @@ IsPart P Unread old after calls marks last = IsUntouched old after calls marks �
 IsPart P Unformed old after calls marks last = IsUntouched old after calls marks × (last ≡ [])
 
 -- The line ended early, with so much of it done.
-pub record StopsLine {D : Type 0} (told_image : D → Option (List ℕ)) (moment : D → ℕ) (reach : D → Reach) (said : D → Option (List ℕ)) (asked : D → Option (List desk.Call)) (P : Language) (old new : D) (st : State) (line : Line) : Type 0 where
+pub record StopsLine {D : Type 0} (told_image : D → Option (List ℕ)) (moment : D → ℕ) (reach : D → Reach) (said : D → Option (List ℕ)) (asked : D → Option (List desk.Call)) (syncs : D → Option ℕ) (P : Language) (old new : D) (st : State) (line : Line) : Type 0 where
   pub calls : List Call
   pub marks : List Mark
   pub after : State
   pub last : List Call
   pub part : IsPart P line st after calls marks last
   pub told : asked new ≡ told_after (asked old) (calls ++ last)
+  -- two for each call, and two for what comes next: its call, whether it was asked or not, or settling
+  pub few_syncs : SyncsWithin (syncs old) (syncs new) (2 + 2 * length (calls ++ last))
   pub leaves : LeavesKept moment reach said asked old new after.history (length st.history) (marks ++ marks_on after.history last)
-  pub reads : ForSome (told_image new) (IsKept after.history (length st.history) marks (length calls))
+  pub reads : ForSome (told_image new) (IsKept after.history (length st.history) (marks ++ marks_on after.history last) (length (calls ++ last)))

@@ -35,7 +35,7 @@ fn stepped<D: Desk, L: Ledger>(
         IfOk result (λ text. IsDone D.size D.image D.may_leave D.moment D.reach D.said D.asked D.syncs
         desk.old desk.new exec.new st (as_line line.now) text.items) }
     ensures stops { (st : State) → Runs D.size D.image D.may_leave desk.old exec.old st (length st.history) →
-        OnErr result (StopsLine D.image D.moment D.reach D.said D.asked (language exec.old) desk.old desk.new st (as_line line.now)) }
+        OnErr result (StopsLine D.image D.moment D.reach D.said D.asked D.syncs (language exec.old) desk.old desk.new st (as_line line.now)) }
     ensures program { exec.new.program ≡ exec.old.program }
     ensures disk { IsErrOf result ExecFault.Disk → Rose (D.disk_faults desk.old) (D.disk_faults desk.new) }
     ensures no_fault { (IsErrOf result ExecFault.Disk → ⊥) → D.disk_faults desk.new ≡ D.disk_faults desk.old }
@@ -74,7 +74,7 @@ fn counted<D: Desk, L: Ledger>(
         IfOk result (λ text. IsDone D.size D.image D.may_leave D.moment D.reach D.said D.asked D.syncs
         desk.old desk.new exec.new st (as_line line.now) text.items) }
     ensures stops { (st : State) → Runs D.size D.image D.may_leave desk.old exec.old st (length st.history) →
-        OnErr result (StopsLine D.image D.moment D.reach D.said D.asked (language exec.old) desk.old desk.new st (as_line line.now)) }
+        OnErr result (StopsLine D.image D.moment D.reach D.said D.asked D.syncs (language exec.old) desk.old desk.new st (as_line line.now)) }
     ensures program { exec.new.program ≡ exec.old.program }
     ensures disk { IsErrOf result ExecFault.Disk → Rose (D.disk_faults desk.old) (D.disk_faults desk.new) }
     ensures no_fault { (IsErrOf result ExecFault.Disk → ⊥) → D.disk_faults desk.new ≡ D.disk_faults desk.old }
@@ -99,7 +99,7 @@ fn done<D: Desk>(
         IfOk result (λ text. IsDone D.size D.image D.may_leave D.moment D.reach D.said D.asked D.syncs
         desk.old desk.new exec.new st (as_line line.now) text.items) }
     ensures stops { (st : State) → Runs D.size D.image D.may_leave desk.old exec.old st (length st.history) →
-        OnErr result (StopsLine D.image D.moment D.reach D.said D.asked (language exec.old) desk.old desk.new st (as_line line.now)) }
+        OnErr result (StopsLine D.image D.moment D.reach D.said D.asked D.syncs (language exec.old) desk.old desk.new st (as_line line.now)) }
     ensures program { exec.new.program ≡ exec.old.program }
     ensures disk { IsErrOf result ExecFault.Disk → Rose (D.disk_faults desk.old) (D.disk_faults desk.new) }
     ensures no_fault { (IsErrOf result ExecFault.Disk → ⊥) → D.disk_faults desk.new ≡ D.disk_faults desk.old }
@@ -123,7 +123,7 @@ pub fn answered<D: Desk>(
         IfOk result (λ text. DoesLine D.size D.image D.may_leave D.moment D.reach D.said D.asked D.syncs
         desk.old desk.new exec.new st (as_line line.now) text.items) }
     ensures stops { (st : State) → Runs D.size D.image D.may_leave desk.old exec.old st (length st.history) →
-        OnErr result (StopsLine D.image D.moment D.reach D.said D.asked (language exec.old) desk.old desk.new st (as_line line.now)) }
+        OnErr result (StopsLine D.image D.moment D.reach D.said D.asked D.syncs (language exec.old) desk.old desk.new st (as_line line.now)) }
     ensures program { exec.new.program ≡ exec.old.program }
     ensures disk { IsErrOf result ExecFault.Disk → Rose (D.disk_faults desk.old) (D.disk_faults desk.new) }
     ensures no_fault { (IsErrOf result ExecFault.Disk → ⊥) → D.disk_faults desk.new ≡ D.disk_faults desk.old }

@@ -39,7 +39,7 @@ pub fn command<D: Desk>(
         IfOk result (λ text. IsDone D.size D.image D.may_leave D.moment D.reach D.said D.asked D.syncs
         desk.old desk.new exec.new st (script.Does (model.Run command.now)) text.items) }
     ensures stops { (st : State) → Runs D.size D.image D.may_leave desk.old exec.old st (length st.history) →
-        OnErr result (StopsLine D.image D.moment D.reach D.said D.asked (language exec.old) desk.old desk.new st (script.Does (model.Run command.now))) }
+        OnErr result (StopsLine D.image D.moment D.reach D.said D.asked D.syncs (language exec.old) desk.old desk.new st (script.Does (model.Run command.now))) }
     ensures program { exec.new.program ≡ exec.old.program }
     ensures disk { IsErrOf result ExecFault.Disk → Rose (D.disk_faults desk.old) (D.disk_faults desk.new) }
     ensures no_fault { (IsErrOf result ExecFault.Disk → ⊥) → D.disk_faults desk.new ≡ D.disk_faults desk.old }
@@ -68,7 +68,7 @@ fn known_turn<D: Desk, L: Ledger>(
         IfOk result (λ text. IsDone D.size D.image D.may_leave D.moment D.reach D.said D.asked D.syncs
         desk.old desk.new exec.new st (script.Does (model.Turn id.now)) text.items) }
     ensures stops { (st : State) → Runs D.size D.image D.may_leave desk.old exec.old st (length st.history) →
-        OnErr result (StopsLine D.image D.moment D.reach D.said D.asked (language exec.old) desk.old desk.new st (script.Does (model.Turn id.now))) }
+        OnErr result (StopsLine D.image D.moment D.reach D.said D.asked D.syncs (language exec.old) desk.old desk.new st (script.Does (model.Turn id.now))) }
     ensures program { exec.new.program ≡ exec.old.program }
     ensures disk { IsErrOf result ExecFault.Disk → Rose (D.disk_faults desk.old) (D.disk_faults desk.new) }
     ensures no_fault { (IsErrOf result ExecFault.Disk → ⊥) → D.disk_faults desk.new ≡ D.disk_faults desk.old }
@@ -96,7 +96,7 @@ pub fn turn<D: Desk, L: Ledger>(
         IfOk result (λ text. IsDone D.size D.image D.may_leave D.moment D.reach D.said D.asked D.syncs
         desk.old desk.new exec.new st (script.Does (model.Turn id.now)) text.items) }
     ensures stops { (st : State) → Runs D.size D.image D.may_leave desk.old exec.old st (length st.history) →
-        OnErr result (StopsLine D.image D.moment D.reach D.said D.asked (language exec.old) desk.old desk.new st (script.Does (model.Turn id.now))) }
+        OnErr result (StopsLine D.image D.moment D.reach D.said D.asked D.syncs (language exec.old) desk.old desk.new st (script.Does (model.Turn id.now))) }
     ensures program { exec.new.program ≡ exec.old.program }
     ensures disk { IsErrOf result ExecFault.Disk → Rose (D.disk_faults desk.old) (D.disk_faults desk.new) }
     ensures no_fault { (IsErrOf result ExecFault.Disk → ⊥) → D.disk_faults desk.new ≡ D.disk_faults desk.old }
@@ -126,7 +126,7 @@ fn declared_dequeue<D: Desk>(
         IfOk result (λ text. IsDone D.size D.image D.may_leave D.moment D.reach D.said D.asked D.syncs
         desk.old desk.new exec.new st (script.Does (model.Dequeue queue.now)) text.items) }
     ensures stops { (st : State) → Runs D.size D.image D.may_leave desk.old exec.old st (length st.history) →
-        OnErr result (StopsLine D.image D.moment D.reach D.said D.asked (language exec.old) desk.old desk.new st (script.Does (model.Dequeue queue.now))) }
+        OnErr result (StopsLine D.image D.moment D.reach D.said D.asked D.syncs (language exec.old) desk.old desk.new st (script.Does (model.Dequeue queue.now))) }
     ensures program { exec.new.program ≡ exec.old.program }
     ensures disk { IsErrOf result ExecFault.Disk → Rose (D.disk_faults desk.old) (D.disk_faults desk.new) }
     ensures no_fault { (IsErrOf result ExecFault.Disk → ⊥) → D.disk_faults desk.new ≡ D.disk_faults desk.old }
@@ -153,7 +153,7 @@ pub fn dequeue<D: Desk>(
         IfOk result (λ text. IsDone D.size D.image D.may_leave D.moment D.reach D.said D.asked D.syncs
         desk.old desk.new exec.new st (script.Does (model.Dequeue queue.now)) text.items) }
     ensures stops { (st : State) → Runs D.size D.image D.may_leave desk.old exec.old st (length st.history) →
-        OnErr result (StopsLine D.image D.moment D.reach D.said D.asked (language exec.old) desk.old desk.new st (script.Does (model.Dequeue queue.now))) }
+        OnErr result (StopsLine D.image D.moment D.reach D.said D.asked D.syncs (language exec.old) desk.old desk.new st (script.Does (model.Dequeue queue.now))) }
     ensures program { exec.new.program ≡ exec.old.program }
     ensures disk { IsErrOf result ExecFault.Disk → Rose (D.disk_faults desk.old) (D.disk_faults desk.new) }
     ensures no_fault { (IsErrOf result ExecFault.Disk → ⊥) → D.disk_faults desk.new ≡ D.disk_faults desk.old }
@@ -183,7 +183,7 @@ pub fn drain<D: Desk, L: Ledger>(
         IfOk result (λ text. IsDone D.size D.image D.may_leave D.moment D.reach D.said D.asked D.syncs
         desk.old desk.new exec.new st (script.Drain turns) text.items) }
     ensures stops { (st : State) → Runs D.size D.image D.may_leave desk.old exec.old st (length st.history) →
-        OnErr result (StopsLine D.image D.moment D.reach D.said D.asked (language exec.old) desk.old desk.new st (script.Drain turns)) }
+        OnErr result (StopsLine D.image D.moment D.reach D.said D.asked D.syncs (language exec.old) desk.old desk.new st (script.Drain turns)) }
     ensures program { exec.new.program ≡ exec.old.program }
     ensures disk { IsErrOf result ExecFault.Disk → Rose (D.disk_faults desk.old) (D.disk_faults desk.new) }
     ensures no_fault { (IsErrOf result ExecFault.Disk → ⊥) → D.disk_faults desk.new ≡ D.disk_faults desk.old }

@@ -9,6 +9,7 @@ ghost use Rattle.r3_entry.specs.Image.{IsHistoryOf};
 ghost use Rattle.r3_model.specs.Forms.{line_of};
 ghost use Rattle.r3_model.specs.Functions.{language_of};
 ghost use Rattle.r3_model.specs.Machine.{State};
+ghost use Rattle.r3_exec.specs.Does.{SyncsWithin};
 ghost use Rattle.r3_exec.specs.Runs.{Runs, language};
 ghost use Rattle.r3_recover.specs.Drained.{Raised};
 ghost use Rattle.r3_recover.specs.Opened.{HasProgram, HasCause, IsHalted};
@@ -77,6 +78,9 @@ impl Session {
         // Where it comes to none, a crash leaves what stood before, or what the opening has added too.
         ensures stops { (h : List Entry) → ForSome (D.image desk.old) (λ i. IsHistoryOf h i →
             OnErr result (StopsOpening D.image D.moment D.reach D.said D.asked (language_of program) desk.old desk.new text.now h)) }
+
+        // The header of a new file costs one, and settling two.
+        ensures few_syncs { SyncsWithin (D.syncs desk.old) (D.syncs desk.new) 3 }
         ensures kept { (fault : _) → result ≡ Err (StartFault.Store fault) → D.image desk.new ≡ D.image desk.old }
         ensures other_kept { result ≡ Err StartFault.Other → D.image desk.new ≡ D.image desk.old }
         ensures disk { IsErrOf result StartFault.Disk → Rose (D.disk_faults desk.old) (D.disk_faults desk.new) }
@@ -135,7 +139,7 @@ impl Session {
             IfOk result (λ text. DoesLine D.size D.image D.may_leave D.moment D.reach D.said D.asked D.syncs
             desk.old desk.new self.new.exec st (as_line line.now) text.items) }
         ensures stops { (st : State) → Runs D.size D.image D.may_leave desk.old self.old.exec st (length st.history) →
-            OnErr result (StopsLine D.image D.moment D.reach D.said D.asked (language self.old.exec) desk.old desk.new st (as_line line.now)) }
+            OnErr result (StopsLine D.image D.moment D.reach D.said D.asked D.syncs (language self.old.exec) desk.old desk.new st (as_line line.now)) }
         ensures program { self.new.exec.program ≡ self.old.exec.program }
         ensures on_ok { OnOk result (self.new.failed ≡ false) }
         ensures on_fault { OnErr result (self.new.failed ≡ true) }
@@ -167,7 +171,7 @@ impl Session {
             IfOk result (λ text. DoesLine D.size D.image D.may_leave D.moment D.reach D.said D.asked D.syncs
             desk.old desk.new self.new.exec st (line_of line.now) text.items) }
         ensures stops { (st : State) → Runs D.size D.image D.may_leave desk.old self.old.exec st (length st.history) →
-            OnErr result (StopsLine D.image D.moment D.reach D.said D.asked (language self.old.exec) desk.old desk.new st (line_of line.now)) }
+            OnErr result (StopsLine D.image D.moment D.reach D.said D.asked D.syncs (language self.old.exec) desk.old desk.new st (line_of line.now)) }
         ensures program { self.new.exec.program ≡ self.old.exec.program }
         ensures on_ok { OnOk result (self.new.failed ≡ false) }
         ensures on_fault { OnErr result (self.new.failed ≡ true) }

@@ -1,11 +1,13 @@
 use Rattle.std.proofs.Common.{◌∙◌, inr, ap, subst}
+use Rattle.std.specs.Prelude.{Err}
 use Rattle.r3_model.specs.Functions.{language_of}
 use Rattle.r3_model.specs.Generator.{generated}
 use Rattle.r3_model.specs.Language.{Language}
 use Rattle.r3_recover.specs.Opened.{IsHalted}
 use Rattle.r3_recover.specs.declared.ends.StartFault.{StartFault}
 use Rattle.r3_serve.specs.Served.{Quiet}
-use Rattle.r3_gen.specs.Ran.{Ran}
+use Rattle.r3_serve.specs.declared.fault.ServeFault.{ServeFault}
+use Rattle.r3_gen.specs.Ran.{Ran, SummaryFailed}
 use Rattle.r3_gen.proofs.Starting.{start_of}
 use Rattle.r3_gen.proofs.running.run.Goals as goal
 
@@ -63,4 +65,15 @@ returns-clause-stops g c =
       c.run_opened.new.session.exec,
       c.run_opened.ensures.program ∙ c.in-Ok.ensures.program,
       c.in-Err-Say.ensures.stops c.args.desk.now c.args.text.now o.0 o.3,
+    )
+
+pub returns-clause-say_whole : goal.returns-clause-say_whole
+returns-clause-say_whole g c = λ _.
+    let o = c.in-Ok.ensures.serves Quiet in (
+      o.0,
+      o.1,
+      o.2,
+      subst (λ (P : Language). SummaryFailed g.D.Desk.image g.D.Desk.moment g.D.Desk.reach g.D.Desk.said g.D.Desk.asked c.args.desk.now c.run_opened.new.desk P c.args.text.now o.0 (generated c.args.number c.args.count) c.args.count)
+          (ap (λ is. language_of is) c.in-Ok.ensures.program)
+          (c.in-Err-Say.ensures.say_whole c.args.desk.now c.args.text.now o.0 o.3 (ap (λ (f : ServeFault). Err f) c.in-Err-Say.field-0-is)),
     )

@@ -45,3 +45,18 @@ returns-clause-stops g c = λ from text h s.
           refl t (take-append-drop some.0 all ∙ c.in-Ok-summary_of.ensures t.after t.runs.stands)
           says c.say.ensures.asked c.say.ensures.image c.say.ensures.pending c.say.ensures.time,
     )
+
+pub returns-clause-say_whole : goal.returns-clause-say_whole
+returns-clause-say_whole g c = λ from text h s _.
+    let t = c.in-Ok.ensures.serves from text h [] s in
+    let all : List ℕ = c.in-Ok-summary_of.summary.items in
+    let some = c.in-Err-say.ensures.part in
+    let says : g.D.Desk.said c.say.new.self ≡ told_push (g.D.Desk.said c.generate.new.desk) (take some.0 all) =
+    some.2 ∙ ap (λ (b : List ℕ). told_push (g.D.Desk.said c.generate.new.desk) (take some.0 b)) c.as_slice.ensures.value in (
+      take some.0 all,
+      drop some.0 all,
+      has-said g.D.Desk.size g.D.Desk.image g.D.Desk.may_leave g.D.Desk.moment g.D.Desk.reach g.D.Desk.said g.D.Desk.asked g.met.D.Desk.counts_now c.reads_as_settled.ensures.crash c.reads_as_settled.ensures.read
+          from c.generate.new.desk c.say.new.self c.generate.new.session.exec (language c.args.session.now.exec) text h (generated c.args.number c.args.count) c.args.count (take some.0 all) (drop some.0 all)
+          (ap (λ is. language_of is) c.generate.ensures.program) t (take-append-drop some.0 all ∙ c.in-Ok-summary_of.ensures t.after t.runs.stands)
+          says c.say.ensures.asked c.say.ensures.image c.say.ensures.pending c.say.ensures.time,
+    )

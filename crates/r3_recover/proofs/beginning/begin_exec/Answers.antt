@@ -2,7 +2,7 @@ use Rattle.std.proofs.Common.{◌≡◌, Bool, ◌∷◌, [], sym, subst, refl}
 use Rattle.std.specs.Prelude.{IsTrue}
 use Rattle.std.proofs.lemmas.Str.{is_utf8-from_IsUtf8}
 use Rattle.r3_recover.proofs.FirstEntry.{first_entry, first-limits, first-payload, first-room}
-use Rattle.r3_recover.proofs.Openings.{has-begun}
+use Rattle.r3_recover.proofs.Openings.{has-begun, one-within}
 use Rattle.r3_recover.proofs.beginning.begin_exec.Goals as goal
 
 pub returns-in-Ok-new-clause-does : goal.returns-in-Ok-new-clause-does
@@ -15,3 +15,12 @@ returns-in-Ok-new-clause-does g c = λ from t.
     c.in-Ok.ensures.begun c.in-Ok-new.ensures.store
     (c.in-Ok-new.ensures.stands (first_entry text ∷ []) c.in-Ok.ensures.begun.stands)
     c.begin.ensures.crash c.begin.ensures.reads c.begin.ensures.at_most c.begin.ensures.said c.begin.ensures.asked
+
+pub returns-in-Ok-new-clause-few_syncs : goal.returns-in-Ok-new-clause-few_syncs
+returns-in-Ok-new-clause-few_syncs g c = one-within (g.D.Desk.syncs c.args.desk.now) (g.D.Desk.syncs c.args.desk.now) (g.D.Desk.syncs c.begin.new.desk) refl c.begin.ensures.at_most
+
+pub returns-in-Err-new-clause-few_syncs : goal.returns-in-Err-new-clause-few_syncs
+returns-in-Err-new-clause-few_syncs g c = one-within (g.D.Desk.syncs c.args.desk.now) (g.D.Desk.syncs c.args.desk.now) (g.D.Desk.syncs c.begin.new.desk) refl c.begin.ensures.at_most
+
+pub returns-in-Err-clause-few_syncs : goal.returns-in-Err-clause-few_syncs
+returns-in-Err-clause-few_syncs g c = one-within (g.D.Desk.syncs c.args.desk.now) (g.D.Desk.syncs c.args.desk.now) (g.D.Desk.syncs c.begin.new.desk) refl c.begin.ensures.at_most

@@ -28,6 +28,7 @@ queues-init g c = record {
   fewer = omega arith;
   counted = λ is not. absurd (let e : true ≡ false = sym is ∙ not in cc);
   program = refl;
+  syncs = refl;
   disk = refl;
   ask = refl;
   said = refl;
@@ -45,6 +46,7 @@ queues-preserved g c =
       fewer = omega (arith, c.in-Ok.ensures.fewer, inv.fewer);
       counted = λ is not. omega (arith, c.in-Ok.ensures.counted, inv.fewer);
       program = c.in-Ok.ensures.program ∙ inv.program;
+      syncs = c.in-Ok.ensures.syncs ∙ inv.syncs;
       disk = c.in-Ok.ensures.no_fault (λ none. cc) ∙ inv.disk;
       ask = c.in-Ok.ensures.ask_faults ∙ inv.ask;
       said = c.in-Ok.ensures.said ∙ inv.said;
@@ -65,7 +67,7 @@ pub returns-in-Err-clause-goes : goal.returns-in-Err-clause-goes
 returns-in-Err-clause-goes g c = λ from st k turns p.
     let here = with-first (λ left. Point g.D.Desk.size g.D.Desk.image g.D.Desk.may_leave g.D.Desk.moment g.D.Desk.reach g.D.Desk.said g.D.Desk.asked g.D.Desk.syncs from c.queues.desk c.queues.exec st k turns (Queues left) c.queues.round.left c.queues.round.changed)
     c.args.queues.now c.queues.queue-index c.queue-item.result c.queues-test.true c.queue-item.is (c.queues.invariant.goes from st k turns p) in
-    subst (λ is. EndsEarly g.D.Desk.image g.D.Desk.moment g.D.Desk.reach g.D.Desk.said g.D.Desk.asked (language_of is) from c.dequeue_next.new.desk st k turns) c.queues.invariant.program
+    subst (λ is. EndsEarly g.D.Desk.image g.D.Desk.moment g.D.Desk.reach g.D.Desk.said g.D.Desk.asked g.D.Desk.syncs (language_of is) from c.dequeue_next.new.desk st k turns) c.queues.invariant.program
     (c.in-Err.ensures.goes from st k turns (drop (c.queues.queue-index + 1) c.args.queues.now) here)
 
 pub returns-clause-goes : goal.returns-clause-goes

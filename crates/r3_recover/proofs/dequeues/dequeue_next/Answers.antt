@@ -28,4 +28,4 @@ returns-in-Ok-clause-goes g c = λ from st k turns names p.
 pub returns-in-Err-clause-goes : goal.returns-in-Err-clause-goes
 returns-in-Err-clause-goes g c = λ from st k turns names p.
     dequeue-ends g.D.Desk.size g.D.Desk.image g.D.Desk.may_leave g.D.Desk.moment g.D.Desk.reach g.D.Desk.said g.D.Desk.asked g.D.Desk.syncs c.only_appends.ensures
-    from c.args.desk.now c.dequeue.new.desk c.args.exec.now st k turns _ _ _ p c.dequeue.ensures.asked c.dequeue.ensures.crash c.dequeue.ensures.reads
+    from c.args.desk.now c.dequeue.new.desk c.args.exec.now st k turns _ _ _ p c.dequeue.ensures.asked c.dequeue.ensures.syncs c.dequeue.ensures.crash c.dequeue.ensures.reads

@@ -1,8 +1,10 @@
-use Rattle.std.proofs.Common.{Ok, false, List, ◌∙◌, refl, sym, subst, ap}
+use Rattle.std.proofs.Common.{ℕ, ◌*◌, ◌-◌, Ok, false, List, ◌∙◌, refl, sym, subst, ap, arith}
 use Rattle.r3_model.specs.Functions.{language_of}
 use Rattle.r3_model.specs.Language.{Text}
 use Rattle.r3_recover.specs.Drained.{EndsEarly}
 use Rattle.r3_recover.specs.Rounds.{Point, Queues}
+use Rattle.r3_exec.proofs.Syncs.{no_more}
+use Rattle.r3_recover.proofs.Leaving.{few-by}
 use Rattle.r3_recover.proofs.Phases.{queue_names}
 use Rattle.r3_recover.proofs.Starts.{ends-first}
 use Rattle.r3_recover.proofs.Taking.{raised-then}
@@ -11,7 +13,7 @@ use Rattle.r3_recover.proofs.draining.drain.Goals as goal
 
 pub returns-in-Err-clause-early : goal.returns-in-Err-clause-early
 returns-in-Err-clause-early g c = λ st k runs.
-    ends-first g.D.Desk.image g.D.Desk.may_leave g.D.Desk.moment g.D.Desk.reach g.D.Desk.said g.D.Desk.asked _ c.args.desk.now st k c.args.turns
+    ends-first g.D.Desk.image g.D.Desk.may_leave g.D.Desk.moment g.D.Desk.reach g.D.Desk.said g.D.Desk.asked g.D.Desk.syncs _ c.args.desk.now st k c.args.turns
     (g.met.D.Desk.counts_now c.args.desk.now) (g.met.D.Desk.only_now c.args.desk.now) runs.holds.within
     (λ image left. c.reads_as_settled.ensures.crash c.args.desk.now c.args.exec.now.store st.history k image runs.holds left)
     (λ image told. c.reads_as_settled.ensures.read c.args.desk.now c.args.exec.now.store st.history k image runs.holds told)
@@ -23,6 +25,8 @@ rounds-init g c = record {
       (g.met.D.Desk.counts_now c.args.desk.now) (g.met.D.Desk.only_now c.args.desk.now) runs
       (λ image left. c.reads_as_settled.ensures.crash c.args.desk.now c.args.exec.now.store st.history k image runs.holds left);
   program = refl;
+  within = omega arith;
+  few = no_more _ _ refl _;
   disk = refl;
   ask = (0, refl);
   said = refl;
@@ -56,7 +60,7 @@ returns-in-Ok-Some-clause-ask_faults g c =
 pub returns-in-Err-go_round-clause-early : goal.returns-in-Err-go_round-clause-early
 returns-in-Err-go_round-clause-early g c = λ st k runs.
     let here = subst (λ (names : List Text). Point g.D.Desk.size g.D.Desk.image g.D.Desk.may_leave g.D.Desk.moment g.D.Desk.reach g.D.Desk.said g.D.Desk.asked g.D.Desk.syncs c.args.desk.now c.rounds.desk c.rounds.exec st k c.args.turns (Queues names) c.rounds.left false) (sym c.deref.ensures.value) (c.rounds.invariant.goes st k runs) in
-    subst (λ is. EndsEarly g.D.Desk.image g.D.Desk.moment g.D.Desk.reach g.D.Desk.said g.D.Desk.asked (language_of is) c.args.desk.now c.go_round.new.desk st k c.args.turns) c.rounds.invariant.program
+    subst (λ is. EndsEarly g.D.Desk.image g.D.Desk.moment g.D.Desk.reach g.D.Desk.said g.D.Desk.asked g.D.Desk.syncs (language_of is) c.args.desk.now c.go_round.new.desk st k c.args.turns) c.rounds.invariant.program
     (c.in-Err-go_round.ensures.goes c.args.desk.now st k here)
 
 pub returns-in-Err-go_round-clause-ask_faults : goal.returns-in-Err-go_round-clause-ask_faults
@@ -73,6 +77,9 @@ rounds-preserved g c =
           subst (λ (names : List Text). Point g.D.Desk.size g.D.Desk.image g.D.Desk.may_leave g.D.Desk.moment g.D.Desk.reach g.D.Desk.said g.D.Desk.asked g.D.Desk.syncs c.args.desk.now c.go_round.new.desk c.go_round.new.exec st k c.args.turns (Queues names) c.go_round.new.left false) c.deref.ensures.value
           (rw c.in-Ok-None.field-0-is at (c.in-Ok-None.ensures.goes c.args.desk.now st k here));
       program = c.go_round.ensures.program ∙ inv.program;
+      within = omega (arith, inv.within, c.in-Ok-None.ensures.fewer (ap (λ o. Ok o) c.in-Ok-None.field-0-is));
+      few = few-by (g.D.Desk.syncs c.args.desk.now) (g.D.Desk.syncs c.rounds.desk) (g.D.Desk.syncs c.go_round.new.desk) (2 * (c.args.turns - c.rounds.left)) (2 * (c.rounds.left - c.go_round.new.left)) _
+          inv.few c.in-Ok-None.ensures.counted_syncs (omega (arith, inv.within, c.in-Ok-None.ensures.fewer (ap (λ o. Ok o) c.in-Ok-None.field-0-is)));
       disk = c.in-Ok-None.ensures.no_fault (λ none. cc) ∙ inv.disk;
       ask = raised-then inv.ask.0 c.go_round.ensures.ask_faults.0 _ _ _ inv.ask.1 c.go_round.ensures.ask_faults.1;
       said = c.go_round.ensures.said ∙ inv.said;
@@ -81,3 +88,18 @@ rounds-preserved g c =
 
 pub rounds-smaller : goal.rounds-smaller
 rounds-smaller g c = c.in-Ok-None.ensures.fewer (ap (λ o. Ok o) c.in-Ok-None.field-0-is)
+
+pub returns-in-Err-clause-few_syncs : goal.returns-in-Err-clause-few_syncs
+returns-in-Err-clause-few_syncs g c = no_more (g.D.Desk.syncs c.args.desk.now) (g.D.Desk.syncs c.args.desk.now) refl (2 * c.args.turns)
+
+pub returns-in-Ok-Some-clause-few_syncs : goal.returns-in-Ok-Some-clause-few_syncs
+returns-in-Ok-Some-clause-few_syncs g c =
+    let inv = c.rounds.invariant in
+    few-by (g.D.Desk.syncs c.args.desk.now) (g.D.Desk.syncs c.rounds.desk) (g.D.Desk.syncs c.go_round.new.desk) (2 * (c.args.turns - c.rounds.left)) (2 * c.rounds.left) (2 * c.args.turns)
+    inv.few c.go_round.ensures.few_syncs (omega (arith, inv.within))
+
+pub returns-in-Err-go_round-clause-few_syncs : goal.returns-in-Err-go_round-clause-few_syncs
+returns-in-Err-go_round-clause-few_syncs g c =
+    let inv = c.rounds.invariant in
+    few-by (g.D.Desk.syncs c.args.desk.now) (g.D.Desk.syncs c.rounds.desk) (g.D.Desk.syncs c.go_round.new.desk) (2 * (c.args.turns - c.rounds.left)) (2 * c.rounds.left) (2 * c.args.turns)
+    inv.few c.go_round.ensures.few_syncs (omega (arith, inv.within))

@@ -1,13 +1,16 @@
-use Rattle.std.proofs.Common.{◌≡◌, ℕ, false}
+use Rattle.std.proofs.Common.{◌≡◌, ◌≤◌, ◌*◌, ◌-◌, ℕ, false}
 use Rattle.r3_model.specs.Machine.{State}
+use Rattle.r3_exec.specs.Does.{SyncsWithin}
 use Rattle.r3_exec.specs.Runs.{Runs}
 use Rattle.r3_recover.specs.Drained.{Raised}
 use Rattle.r3_recover.specs.Rounds.{Point, Queues}
 use Rattle.r3_recover.proofs.draining.drain.Given as goal
 
-pub record Between (Goes Program Disk Ask Said Say : Type 0) : Type 0 where
+pub record Between (Goes Program Within Few Disk Ask Said Say : Type 0) : Type 0 where
   pub goes : Goes
   pub program : Program
+  pub within : Within
+  pub few : Few
   pub disk : Disk
   pub ask : Ask
   pub said : Said
@@ -19,6 +22,8 @@ invariant-rounds g l = Between
     → Point g.D.Desk.size g.D.Desk.image g.D.Desk.may_leave g.D.Desk.moment g.D.Desk.reach g.D.Desk.said g.D.Desk.asked g.D.Desk.syncs
     l.fn.desk l.desk l.exec st k l.turns (Queues l.queues.items) l.left false)
     (l.exec.program ≡ l.fn.exec.program)
+    (l.left ≤ l.turns)
+    (SyncsWithin (g.D.Desk.syncs l.fn.desk) (g.D.Desk.syncs l.desk) (2 * (l.turns - l.left)))
     (g.D.Desk.disk_faults l.desk ≡ g.D.Desk.disk_faults l.fn.desk)
     ((n : ℕ) × Raised n (g.D.Desk.ask_faults l.fn.desk) (g.D.Desk.ask_faults l.desk))
     (g.D.Desk.said l.desk ≡ g.D.Desk.said l.fn.desk)

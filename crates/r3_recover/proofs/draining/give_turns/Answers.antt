@@ -1,5 +1,6 @@
-use Rattle.std.proofs.Common.{Bool, false, [], ◌∙◌, subst, arith}
+use Rattle.std.proofs.Common.{ℕ, ◌*◌, Bool, false, [], ◌∙◌, refl, subst, arith}
 use Rattle.r3_model.specs.Functions.{language_of}
+use Rattle.r3_exec.proofs.Syncs.{no_more}
 use Rattle.r3_recover.specs.Rounds.{Point, Queues, Turns}
 use Rattle.r3_recover.proofs.Phases.{queue_names}
 use Rattle.r3_recover.proofs.Turning.{point-idle, point-over, point-round, point-stops, point-turns}
@@ -60,3 +61,6 @@ returns-clause-goes g c = λ from st k p.
     (point-round g.D.Desk.size g.D.Desk.image g.D.Desk.may_leave g.D.Desk.moment g.D.Desk.reach g.D.Desk.said g.D.Desk.asked g.D.Desk.syncs from c.turn_each.new.desk c.turn_each.new.exec st k c.args.turns c.turn_each.new.round.left
     (subst (λ (b : Bool). Point g.D.Desk.size g.D.Desk.image g.D.Desk.may_leave g.D.Desk.moment g.D.Desk.reach g.D.Desk.said g.D.Desk.asked g.D.Desk.syncs from c.turn_each.new.desk c.turn_each.new.exec st k c.args.turns (Turns []) c.turn_each.new.round.left b) c.if-not-round.false p2)
     (omega arith))
+
+pub returns-in-Err-clause-few_syncs : goal.returns-in-Err-clause-few_syncs
+returns-in-Err-clause-few_syncs g c = no_more (g.D.Desk.syncs c.args.desk.now) (g.D.Desk.syncs c.args.desk.now) refl (2 * c.args.round.now.left)

@@ -1,10 +1,13 @@
-use Rattle.std.proofs.Common.{List, refl, sym, subst}
+use Rattle.std.proofs.Common.{ℕ, ◌*◌, ◌-◌, List, refl, sym, subst, arith}
 use Rattle.r3_model.specs.Functions.{language_of}
 use Rattle.r3_model.specs.Language.{Text}
 use Rattle.r3_exec.specs.Runs.{language}
+use Rattle.r3_exec.specs.Does.{SyncsWithin}
+use Rattle.r3_exec.proofs.Syncs.{no_more}
+use Rattle.r3_recover.proofs.Leaving.{few-by}
 use Rattle.r3_recover.proofs.Phases.{queue_names}
 use Rattle.r3_recover.proofs.Taking.{raised-then}
-use Rattle.r3_recover.proofs.Turning.{GoesRound, one-taken}
+use Rattle.r3_recover.proofs.Turning.{GoesRound, on-ok, one-taken}
 use Rattle.r3_recover.proofs.draining.go_round.Goals as goal
 
 pub dequeue_each-requires : goal.dequeue_each-requires
@@ -43,3 +46,29 @@ returns-clause-goes g c = λ from st k p.
     subst (λ (names : List Text). GoesRound g.D.Desk.size g.D.Desk.image g.D.Desk.may_leave g.D.Desk.moment g.D.Desk.reach g.D.Desk.said g.D.Desk.asked g.D.Desk.syncs from c.give_turns-end.new.desk c.give_turns-end.new.exec st k c.args.turns names (language c.args.exec.now) c.give_turns-end.new.round.left c.give_turns-end.result) (sym c.requires.queues)
     (subst (λ is. GoesRound g.D.Desk.size g.D.Desk.image g.D.Desk.may_leave g.D.Desk.moment g.D.Desk.reach g.D.Desk.said g.D.Desk.asked g.D.Desk.syncs from c.give_turns-end.new.desk c.give_turns-end.new.exec st k c.args.turns (queue_names (language_of is)) (language_of is) c.give_turns-end.new.round.left c.give_turns-end.result) c.dequeue_each.ensures.program
     (c.give_turns-end.ensures.goes from st k here))
+
+pub returns-in-Ok-false-clause-few_syncs : goal.returns-in-Ok-false-clause-few_syncs
+returns-in-Ok-false-clause-few_syncs g c = no_more (g.D.Desk.syncs c.args.desk.now) (g.D.Desk.syncs c.dequeue_each.new.desk) c.dequeue_each.ensures.syncs _
+
+pub returns-in-Ok-false-clause-counted_syncs : goal.returns-in-Ok-false-clause-counted_syncs
+returns-in-Ok-false-clause-counted_syncs g c = no_more (g.D.Desk.syncs c.args.desk.now) (g.D.Desk.syncs c.dequeue_each.new.desk) c.dequeue_each.ensures.syncs _
+
+pub returns-in-Err-clause-few_syncs : goal.returns-in-Err-clause-few_syncs
+returns-in-Err-clause-few_syncs g c = no_more (g.D.Desk.syncs c.args.desk.now) (g.D.Desk.syncs c.dequeue_each.new.desk) c.dequeue_each.ensures.syncs _
+
+pub returns-clause-few_syncs : goal.returns-clause-few_syncs
+returns-clause-few_syncs g c =
+    few-by (g.D.Desk.syncs c.args.desk.now) (g.D.Desk.syncs c.dequeue_each.new.desk) (g.D.Desk.syncs c.give_turns-end.new.desk) 0 (2 * c.dequeue_each.new.round.left) (2 * c.args.left.now)
+    (no_more _ _ c.dequeue_each.ensures.syncs 0) c.give_turns-end.ensures.few_syncs (omega (arith, c.dequeue_each.ensures.fewer))
+
+pub returns-clause-counted_syncs : goal.returns-clause-counted_syncs
+returns-clause-counted_syncs g c =
+    let old = c.args.left.now in
+    let mid = c.dequeue_each.new.round.left in
+    let new = c.give_turns-end.new.round.left in
+    on-ok c.give_turns-end.result
+    (SyncsWithin (g.D.Desk.syncs c.dequeue_each.new.desk) (g.D.Desk.syncs c.give_turns-end.new.desk) (2 * (mid - new)))
+    (SyncsWithin (g.D.Desk.syncs c.args.desk.now) (g.D.Desk.syncs c.give_turns-end.new.desk) (2 * (old - new)))
+    (λ few. few-by (g.D.Desk.syncs c.args.desk.now) (g.D.Desk.syncs c.dequeue_each.new.desk) (g.D.Desk.syncs c.give_turns-end.new.desk) 0 (2 * (mid - new)) (2 * (old - new))
+    (no_more _ _ c.dequeue_each.ensures.syncs 0) few (omega (arith, c.dequeue_each.ensures.fewer, c.give_turns-end.ensures.fewer)))
+    c.give_turns-end.ensures.counted_syncs

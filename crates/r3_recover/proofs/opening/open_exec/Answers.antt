@@ -1,4 +1,4 @@
-use Rattle.std.proofs.Common.{◌≡◌, ◌⊎◌, inl, inr, ⊎_elim, ℕ, List, Option, Some, Result, Ok, Err, refl, sym, ap, ◌∙◌, subst}
+use Rattle.std.proofs.Common.{◌≡◌, ◌⊎◌, inl, inr, ⊎_elim, ℕ, List, Option, Some, Result, Ok, Err, refl, sym, ap, ◌∙◌, subst, arith}
 use Rattle.std.specs.Prelude.{IfErr, IsErrAnd}
 use Rattle.std.specs.Option.{ForSome}
 use Rattle.r3_desk.specs.Moments.{LeavesImage}
@@ -6,10 +6,12 @@ use Rattle.r3_entry.specs.declared.entry.Entry.{Entry}
 use Rattle.r3_entry.specs.Image.{IsHistoryOf}
 use Rattle.r3_store.specs.declared.fault.OpenFault.{OpenFault}
 use Rattle.r3_exec.specs.declared.exec.Exec.{Exec}
+use Rattle.r3_exec.proofs.Syncs.{no_more}
 use Rattle.r3_recover.specs.Opened.{HasCause, HasProgram, IsHalted}
 use Rattle.r3_recover.specs.Recovering.{told_fault}
 use Rattle.r3_recover.specs.declared.ends.StartFault.{StartFault}
 use Rattle.r3_recover.specs.declared.ends.StartFault.TheVariants.{Store, Other, Disk, Memory}
+use Rattle.r3_recover.proofs.Leaving.{few-by}
 use Rattle.r3_recover.proofs.Openings.{taken}
 use Rattle.r3_recover.proofs.opening.open_exec.Goals as goal
 
@@ -76,3 +78,11 @@ returns-in-Err-clause-opens g c = λ h i told is has.
     (λ disk. inl (c.start_fault.ensures ∙ ap (λ (f : OpenFault). told_fault f) disk))
     (λ memory. inr (c.start_fault.ensures ∙ ap (λ (f : OpenFault). told_fault f) memory))
     (c.in-Err.ensures.on_history h i told is)
+
+pub returns-in-Ok-clause-few_syncs : goal.returns-in-Ok-clause-few_syncs
+returns-in-Ok-clause-few_syncs g c =
+    few-by (g.D.Desk.syncs c.args.desk.now) (g.D.Desk.syncs c.open.new.desk) (g.D.Desk.syncs c.take_up.new.desk) 0 1 1
+    (no_more _ _ c.open.ensures.syncs 0) c.take_up.ensures.few_syncs (omega arith)
+
+pub returns-in-Err-clause-few_syncs : goal.returns-in-Err-clause-few_syncs
+returns-in-Err-clause-few_syncs g c = no_more (g.D.Desk.syncs c.args.desk.now) (g.D.Desk.syncs c.open.new.desk) c.open.ensures.syncs 1

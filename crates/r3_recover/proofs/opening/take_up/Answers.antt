@@ -1,6 +1,7 @@
 use Rattle.std.proofs.Common.{◌≡◌, ◌≢◌, ◌≤◌, ℕ, List, [], ◌∷◌, true, inl, length, refl, sym, ap, ◌∙◌, subst, arith}
 use Rattle.r3_entry.specs.declared.entry.Entry.{Entry}
 use Rattle.r3_entry.specs.Image.{IsHistoryOf}
+use Rattle.r3_exec.proofs.Syncs.{no_more}
 use Rattle.r3_recover.specs.Opened.{HasProgram}
 use Rattle.r3_recover.proofs.opening.take_up.Goals as goal
 
@@ -33,3 +34,9 @@ returns-clause-crash g c = λ from h t.
 pub returns-clause-reads : goal.returns-clause-reads
 returns-clause-reads g c = λ from h t.
     c.recover_exec.ensures.reads from h t (some-of h c.len.result (c.len.ensures h t.opens.holds.stands) c.if-len-eq0.false)
+
+pub returns-then-not-has_program-clause-few_syncs : goal.returns-then-not-has_program-clause-few_syncs
+returns-then-not-has_program-clause-few_syncs g c = no_more (g.D.Desk.syncs c.args.desk.now) (g.D.Desk.syncs c.args.desk.now) refl 1
+
+pub returns-clause-few_syncs : goal.returns-clause-few_syncs
+returns-clause-few_syncs g c = no_more (g.D.Desk.syncs c.args.desk.now) (g.D.Desk.syncs c.recover_exec.new.desk) c.recover_exec.ensures.syncs 1

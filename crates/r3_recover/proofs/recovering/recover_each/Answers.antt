@@ -18,6 +18,7 @@ pub ids-init : goal.ids-init
 ids-init g c = record {
   goes = λ from h p. p;
   program = refl;
+  syncs = refl;
   disk = refl;
   ask = refl;
   said = refl;
@@ -34,6 +35,7 @@ ids-preserved g c =
           (with-first (λ left. Recovers g.D.Desk.size g.D.Desk.image g.D.Desk.may_leave g.D.Desk.moment g.D.Desk.reach g.D.Desk.said g.D.Desk.asked g.D.Desk.syncs from c.ids.desk c.ids.exec h left)
           c.args.ids.now c.ids.id-index c.id-item.result c.ids-test.true c.id-item.is (inv.goes from h p));
       program = c.in-Ok.ensures.program ∙ inv.program;
+      syncs = c.in-Ok.ensures.syncs ∙ inv.syncs;
       disk = c.in-Ok.ensures.no_fault (λ none. cc) ∙ inv.disk;
       ask = c.in-Ok.ensures.ask_faults ∙ inv.ask;
       said = c.in-Ok.ensures.said ∙ inv.said;

@@ -3,9 +3,10 @@ use Rattle.r3_entry.specs.declared.entry.Entry.{Entry}
 use Rattle.r3_recover.specs.Recovering.{Recovers}
 use Rattle.r3_recover.proofs.recovering.recover_each.Given as goal
 
-pub record Left (Goes Program Disk Ask Said Asked Say : Type 0) : Type 0 where
+pub record Left (Goes Program Syncs Disk Ask Said Asked Say : Type 0) : Type 0 where
   pub goes : Goes
   pub program : Program
+  pub syncs : Syncs
   pub disk : Disk
   pub ask : Ask
   pub said : Said
@@ -20,6 +21,7 @@ invariant-ids g l = Left
     → Recovers g.D.Desk.size g.D.Desk.image g.D.Desk.may_leave g.D.Desk.moment g.D.Desk.reach g.D.Desk.said g.D.Desk.asked g.D.Desk.syncs
     from l.desk l.exec h (drop l.id-index l.ids))
     (l.exec.program ≡ l.fn.exec.program)
+    (g.D.Desk.syncs l.desk ≡ g.D.Desk.syncs l.fn.desk)
     (g.D.Desk.disk_faults l.desk ≡ g.D.Desk.disk_faults l.fn.desk)
     (g.D.Desk.ask_faults l.desk ≡ g.D.Desk.ask_faults l.fn.desk)
     (g.D.Desk.said l.desk ≡ g.D.Desk.said l.fn.desk)

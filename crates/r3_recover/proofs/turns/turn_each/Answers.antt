@@ -1,7 +1,9 @@
-use Rattle.std.proofs.Common.{◌≡◌, true, false, ◌∷◌, ◌+◌, drop, refl, sym, subst, ◌∙◌, arith}
+use Rattle.std.proofs.Common.{◌≡◌, true, false, ◌∷◌, ◌+◌, ◌*◌, ◌-◌, drop, refl, sym, subst, ◌∙◌, arith}
 use Rattle.r3_model.specs.Functions.{language_of}
 use Rattle.r3_recover.specs.Drained.{EndsEarly}
 use Rattle.r3_recover.specs.Rounds.{Point, Turns}
+use Rattle.r3_exec.proofs.Syncs.{no_more}
+use Rattle.r3_recover.proofs.Leaving.{few-by, few-more}
 use Rattle.r3_recover.proofs.Taking.{raised-then, with-first, with-none}
 use Rattle.r3_recover.proofs.Turning.{point-cut}
 use Rattle.r3_recover.proofs.turns.turn_each.Goals as goal
@@ -28,6 +30,7 @@ ids-init g c = record {
   fewer = omega arith;
   counted = λ is not. absurd (let e : true ≡ false = sym is ∙ not in cc);
   program = refl;
+  few = no_more _ _ refl _;
   disk = refl;
   ask = (0, refl);
   said = refl;
@@ -45,6 +48,8 @@ ids-preserved g c =
       fewer = omega (arith, c.in-Ok.ensures.fewer, inv.fewer);
       counted = λ is not. omega (arith, c.in-Ok.ensures.counted, inv.fewer);
       program = c.in-Ok.ensures.program ∙ inv.program;
+      few = few-by (g.D.Desk.syncs c.args.desk.now) (g.D.Desk.syncs c.ids.desk) (g.D.Desk.syncs c.turn_next.new.desk) (2 * (c.args.round.now.left - c.ids.round.left)) 2 _
+          inv.few c.in-Ok.ensures.few_syncs (omega (arith, inv.fewer, c.in-Ok.ensures.counted));
       disk = c.in-Ok.ensures.no_fault (λ none. cc) ∙ inv.disk;
       ask = raised-then inv.ask.0 c.in-Ok.ensures.ask_faults.0 _ _ _ inv.ask.1 c.in-Ok.ensures.ask_faults.1;
       said = c.in-Ok.ensures.said ∙ inv.said;
@@ -65,7 +70,7 @@ pub returns-in-Err-clause-goes : goal.returns-in-Err-clause-goes
 returns-in-Err-clause-goes g c = λ from st k turns p.
     let here = with-first (λ left. Point g.D.Desk.size g.D.Desk.image g.D.Desk.may_leave g.D.Desk.moment g.D.Desk.reach g.D.Desk.said g.D.Desk.asked g.D.Desk.syncs from c.ids.desk c.ids.exec st k turns (Turns left) c.ids.round.left c.ids.round.changed)
     c.args.ids.now c.ids.id-index c.id-item.result c.ids-test.true c.id-item.is (c.ids.invariant.goes from st k turns p) in
-    subst (λ is. EndsEarly g.D.Desk.image g.D.Desk.moment g.D.Desk.reach g.D.Desk.said g.D.Desk.asked (language_of is) from c.turn_next.new.desk st k turns) c.ids.invariant.program
+    subst (λ is. EndsEarly g.D.Desk.image g.D.Desk.moment g.D.Desk.reach g.D.Desk.said g.D.Desk.asked g.D.Desk.syncs (language_of is) from c.turn_next.new.desk st k turns) c.ids.invariant.program
     (c.in-Err.ensures.goes from st k turns (drop (c.ids.id-index + 1) c.args.ids.now) here)
 
 pub returns-clause-goes : goal.returns-clause-goes
@@ -79,3 +84,17 @@ pub returns-in-Err-clause-ask_faults : goal.returns-in-Err-clause-ask_faults
 returns-in-Err-clause-ask_faults g c =
     let inv = c.ids.invariant in
     raised-then inv.ask.0 c.in-Err.ensures.ask_faults.0 _ _ _ inv.ask.1 c.in-Err.ensures.ask_faults.1
+
+pub returns-then-round-eq0-clause-few_syncs : goal.returns-then-round-eq0-clause-few_syncs
+returns-then-round-eq0-clause-few_syncs g c =
+    few-more (g.D.Desk.syncs c.args.desk.now) (g.D.Desk.syncs c.ids.desk) (2 * (c.args.round.now.left - c.ids.round.left)) (2 * c.args.round.now.left) c.ids.invariant.few (omega arith)
+
+pub returns-in-Err-clause-few_syncs : goal.returns-in-Err-clause-few_syncs
+returns-in-Err-clause-few_syncs g c =
+    let inv = c.ids.invariant in
+    few-by (g.D.Desk.syncs c.args.desk.now) (g.D.Desk.syncs c.ids.desk) (g.D.Desk.syncs c.turn_next.new.desk) (2 * (c.args.round.now.left - c.ids.round.left)) 2 (2 * c.args.round.now.left)
+    inv.few c.in-Err.ensures.few_syncs (omega (arith, inv.fewer))
+
+pub returns-clause-few_syncs : goal.returns-clause-few_syncs
+returns-clause-few_syncs g c =
+    few-more (g.D.Desk.syncs c.args.desk.now) (g.D.Desk.syncs c.ids.desk) (2 * (c.args.round.now.left - c.ids.round.left)) (2 * c.args.round.now.left) c.ids.invariant.few (omega arith)

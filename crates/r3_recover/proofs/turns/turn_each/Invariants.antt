@@ -1,14 +1,16 @@
-use Rattle.std.proofs.Common.{◌≡◌, ◌≤◌, ◌<◌, ℕ, true, false, drop}
+use Rattle.std.proofs.Common.{◌≡◌, ◌≤◌, ◌<◌, ◌*◌, ◌-◌, ℕ, true, false, drop}
 use Rattle.r3_model.specs.Machine.{State}
+use Rattle.r3_exec.specs.Does.{SyncsWithin}
 use Rattle.r3_recover.specs.Drained.{Raised}
 use Rattle.r3_recover.specs.Rounds.{Point, Turns}
 use Rattle.r3_recover.proofs.turns.turn_each.Given as goal
 
-pub record Left (Goes Fewer Counted Program Disk Ask Said Say : Type 0) : Type 0 where
+pub record Left (Goes Fewer Counted Program Few Disk Ask Said Say : Type 0) : Type 0 where
   pub goes : Goes
   pub fewer : Fewer
   pub counted : Counted
   pub program : Program
+  pub few : Few
   pub disk : Disk
   pub ask : Ask
   pub said : Said
@@ -24,6 +26,7 @@ invariant-ids g l = Left
     (l.round.left ≤ l.fn.round.left)
     (l.round.changed ≡ true → l.fn.round.changed ≡ false → l.round.left < l.fn.round.left)
     (l.exec.program ≡ l.fn.exec.program)
+    (SyncsWithin (g.D.Desk.syncs l.fn.desk) (g.D.Desk.syncs l.desk) (2 * (l.fn.round.left - l.round.left)))
     (g.D.Desk.disk_faults l.desk ≡ g.D.Desk.disk_faults l.fn.desk)
     ((n : ℕ) × Raised n (g.D.Desk.ask_faults l.fn.desk) (g.D.Desk.ask_faults l.desk))
     (g.D.Desk.said l.desk ≡ g.D.Desk.said l.fn.desk)

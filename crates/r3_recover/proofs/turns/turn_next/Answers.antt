@@ -24,7 +24,7 @@ returns-in-Ok-clause-goes g c = λ from st k turns ids p.
 pub returns-in-Err-clause-goes : goal.returns-in-Err-clause-goes
 returns-in-Err-clause-goes g c = λ from st k turns ids p.
     turn-ends g.D.Desk.size g.D.Desk.image g.D.Desk.may_leave g.D.Desk.moment g.D.Desk.reach g.D.Desk.said g.D.Desk.asked g.D.Desk.syncs c.only_appends.ensures
-    from c.args.desk.now c.turn.new.desk c.args.exec.now st k turns _ _ _ _ _ p c.as_str.ensures.text c.requires.left c.in-Err.ensures.early c.turn.ensures.crash c.turn.ensures.reads
+    from c.args.desk.now c.turn.new.desk c.args.exec.now st k turns _ _ _ _ _ p c.as_str.ensures.text c.requires.left c.in-Err.ensures.early c.in-Err.ensures.asked_kept c.in-Err.ensures.few_syncs c.turn.ensures.crash c.turn.ensures.reads
 
 pub returns-in-Ok-clause-ask_faults : goal.returns-in-Ok-clause-ask_faults
 returns-in-Ok-clause-ask_faults g c = raised-once c.in-Ok.end _ _ c.in-Ok.ensures.again c.in-Ok.ensures.answered

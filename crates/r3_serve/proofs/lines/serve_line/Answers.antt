@@ -6,7 +6,7 @@ use Rattle.r3_model.specs.Forms.{line_of}
 use Rattle.r3_exec.specs.Runs.{language}
 use Rattle.r3_serve.specs.Served.{Loud}
 use Rattle.r3_serve.proofs.Serving.{went, served-loud}
-use Rattle.r3_serve.proofs.Stopping.{stopped, unsaid}
+use Rattle.r3_serve.proofs.Stopping.{stopped, unsaid, reply-failed}
 use Rattle.r3_serve.proofs.lines.serve_line.Goals as goal
 
 pub returns-in-Err-Disk-clause-stops : goal.returns-in-Err-Disk-clause-stops
@@ -38,6 +38,18 @@ returns-clause-stops g c = λ from text h lines s.
     let says : g.D.Desk.said c.say.new.self ≡ told_push (g.D.Desk.said c.step.new.desk) (take part.0 c.in-Ok.text.items) =
     part.2 ∙ ap (λ (t : Text). told_push (g.D.Desk.said c.step.new.desk) (take part.0 t)) c.as_slice.ensures.value in
     unsaid g.D.Desk.size g.D.Desk.image g.D.Desk.may_leave g.D.Desk.moment g.D.Desk.reach g.D.Desk.said g.D.Desk.asked g.D.Desk.syncs
+    c.reads_as_settled.ensures.crash c.reads_as_settled.ensures.read from c.step.new.desk c.say.new.self c.step.new.self.exec (language c.args.session.now.exec) text h lines (line_of c.args.line.now) c.in-Ok.text.items part.0
+    (ap (λ is. language_of is) c.step.ensures.program) says c.say.ensures.asked c.say.ensures.image c.say.ensures.pending c.say.ensures.time
+    (went g.D.Desk.size g.D.Desk.image g.D.Desk.may_leave g.D.Desk.moment g.D.Desk.reach g.D.Desk.said g.D.Desk.asked g.D.Desk.syncs
+    c.only_appends.ensures c.drains_by_turns.ensures from c.args.desk.now c.step.new.desk c.args.session.now.exec c.step.new.self.exec Loud text h lines (line_of c.args.line.now) c.in-Ok.text.items
+    c.step.ensures.program c.step.ensures.said s (c.in-Ok.ensures.does s.after s.runs))
+
+pub returns-clause-say_whole : goal.returns-clause-say_whole
+returns-clause-say_whole g c = λ from text h lines s _.
+    let part = c.in-Err.ensures.part in
+    let says : g.D.Desk.said c.say.new.self ≡ told_push (g.D.Desk.said c.step.new.desk) (take part.0 c.in-Ok.text.items) =
+    part.2 ∙ ap (λ (t : Text). told_push (g.D.Desk.said c.step.new.desk) (take part.0 t)) c.as_slice.ensures.value in
+    reply-failed g.D.Desk.size g.D.Desk.image g.D.Desk.may_leave g.D.Desk.moment g.D.Desk.reach g.D.Desk.said g.D.Desk.asked g.D.Desk.syncs
     c.reads_as_settled.ensures.crash c.reads_as_settled.ensures.read from c.step.new.desk c.say.new.self c.step.new.self.exec (language c.args.session.now.exec) text h lines (line_of c.args.line.now) c.in-Ok.text.items part.0
     (ap (λ is. language_of is) c.step.ensures.program) says c.say.ensures.asked c.say.ensures.image c.say.ensures.pending c.say.ensures.time
     (went g.D.Desk.size g.D.Desk.image g.D.Desk.may_leave g.D.Desk.moment g.D.Desk.reach g.D.Desk.said g.D.Desk.asked g.D.Desk.syncs

@@ -1,5 +1,7 @@
-use Rattle.std.proofs.Common.{rules, ◌++◌}
-use Rattle.r3_serve.proofs.Scripting.{read_all, stops-first, stops-here, no-more, at-end, too-long, source-fails, one-more, stops-within}
+use Rattle.std.proofs.Common.{rules, ◌++◌, ap}
+use Rattle.std.specs.Prelude.{Err}
+use Rattle.r3_serve.specs.declared.fault.ServeFault.{ServeFault}
+use Rattle.r3_serve.proofs.Scripting.{read_all, stops-first, stops-here, no-more, at-end, too-long, source-fails, one-more, stops-within, fails-within}
 use Rattle.r3_serve.proofs.script.serve_script.Goals as goal
 
 pub returns-in-Err-clause-stops : goal.returns-in-Err-clause-stops
@@ -68,6 +70,14 @@ returns-in-Err-Say-clause-stops g c =
     stops-within g.D.Desk.size g.D.Desk.image g.D.Desk.may_leave g.D.Desk.moment g.D.Desk.reach g.D.Desk.said g.D.Desk.asked _ _ _ _ _ _ _ _ (g.S.Source.ended c.next_line.new.source) _ _
     going c.in-Ok-true.field-0 c.in-Ok-true.field-0-test (c.in-Ok-true.ensures.lines going.given going.handed going.reads) (c.in-Ok-true.ensures.end going.ends)
     c.line.result.now c.line.ensures c.serve_line.new.desk c.serve_line.new.session.exec c.serve_line.ensures.program c.in-Err-Say.ensures.stops
+
+pub returns-in-Err-Say-clause-say_whole : goal.returns-in-Err-Say-clause-say_whole
+returns-in-Err-Say-clause-say_whole g c = λ from text h lines script s at _.
+    let going = c.lines.invariant.going in
+    fails-within g.D.Desk.size g.D.Desk.image g.D.Desk.may_leave g.D.Desk.moment g.D.Desk.reach g.D.Desk.said g.D.Desk.asked _ _ _ _ _ _ _ _ (g.S.Source.ended c.next_line.new.source) _ _
+    going c.in-Ok-true.field-0 c.in-Ok-true.field-0-test (c.in-Ok-true.ensures.lines going.given going.handed going.reads) (c.in-Ok-true.ensures.end going.ends)
+    c.line.result.now c.line.ensures c.serve_line.new.desk (λ f t e ls is. c.in-Err-Say.ensures.say_whole f t e ls is (ap (λ (x : ServeFault). Err x) c.in-Err-Say.field-0-is))
+    from text h lines script s at
 
 pub lines-preserved : goal.lines-preserved
 lines-preserved g c =

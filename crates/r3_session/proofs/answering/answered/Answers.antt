@@ -29,4 +29,4 @@ returns-in-Err-settle-clause-stops g c = λ st runs.
     let k = settled_by (length st.history) d.marks in
     settle-stops g.D.Desk.size g.D.Desk.image g.D.Desk.may_leave g.D.Desk.moment g.D.Desk.reach g.D.Desk.said g.D.Desk.asked g.D.Desk.syncs (language c.args.exec.now) c.args.desk.now c.done.new.desk c.settle.new.desk c.done.new.exec st (as_line c.args.line.now) x.0
     (ap (λ (items : List Item). language_of items) c.done.ensures.program) d (c.settle.ensures.crash d.after k d.runs) (c.settle.ensures.reads d.after k d.runs)
-    c.done.ensures.said c.settle.ensures.asked
+    c.done.ensures.said c.settle.ensures.asked c.settle.ensures.few_syncs

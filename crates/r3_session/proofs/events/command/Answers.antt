@@ -6,6 +6,7 @@ use Rattle.r3_model.specs.Script as script
 use Rattle.r3_exec.specs.Ends.{command_reply}
 use Rattle.r3_exec.specs.Runs.{language}
 use Rattle.r3_session.proofs.Doing.{asks-nothing, done-stops, event-done, event-stops}
+use Rattle.r3_session.proofs.Leaving.{syncs-same}
 use Rattle.r3_session.proofs.Looking.{on-err}
 use Rattle.r3_session.proofs.events.command.Goals as goal
 
@@ -34,3 +35,4 @@ returns-in-Err-clause-stops g c = λ st runs.
     event-stops g.D.Desk.size g.D.Desk.image g.D.Desk.may_leave g.D.Desk.moment g.D.Desk.reach g.D.Desk.said g.D.Desk.asked g.D.Desk.syncs (language c.args.exec.now) c.args.desk.now c.append.new.desk st (Run c.args.command.now)
     (asks-nothing g.D.Desk.size g.D.Desk.image g.D.Desk.may_leave g.D.Desk.moment g.D.Desk.reach g.D.Desk.said g.D.Desk.asked g.D.Desk.syncs (language c.args.exec.now) c.args.desk.now c.append.new.desk st (Run c.args.command.now) c.append.ensures.asked)
     (c.append.ensures.crash st k runs) (c.append.ensures.reads st k runs)
+    (syncs-same (g.D.Desk.syncs c.args.desk.now) (g.D.Desk.syncs c.append.new.desk) 2 c.append.ensures.syncs)

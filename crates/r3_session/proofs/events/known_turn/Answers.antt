@@ -34,7 +34,7 @@ returns-in-Err-clause-stops g c = λ st runs.
     let k = length st.history in
     event-stops g.D.Desk.size g.D.Desk.image g.D.Desk.may_leave g.D.Desk.moment g.D.Desk.reach g.D.Desk.said g.D.Desk.asked g.D.Desk.syncs (language c.args.exec.now) c.args.desk.now c.turn.new.desk st (Turn c.args.id.now)
     (c.in-Err.ensures.early st k runs)
-    (c.turn.ensures.crash st k runs) (c.turn.ensures.reads st k runs)
+    (c.turn.ensures.crash st k runs) (c.turn.ensures.reads st k runs) c.turn.ensures.few_syncs
 
 pub returns-in_ok-turn_text-in-Ok-clause-ask_faults : goal.returns-in_ok-turn_text-in-Ok-clause-ask_faults
 returns-in_ok-turn_text-in-Ok-clause-ask_faults g c = turn-raises c.turn.result (g.D.Desk.ask_faults c.args.desk.now) (g.D.Desk.ask_faults c.turn.new.desk) c.turn.ensures.again c.turn.ensures.answered

@@ -1,4 +1,4 @@
-use Rattle.std.proofs.Common.{◌≡◌, ◌≤◌, List, length, Option, None, arith, inl, sym, ap, ◌∙◌, subst}
+use Rattle.std.proofs.Common.{◌≡◌, ◌≤◌, List, length, Option, None, arith, inl, inr, sym, ap, ◌∙◌, subst}
 use Rattle.r3_desk.specs.Asked as desk
 use Rattle.r3_desk.specs.Disk.{told_len}
 use Rattle.fn_tree.specs.declared.program.Item.{Item}
@@ -78,3 +78,20 @@ returns-in-Err-ask_turn-clause-early g c = λ st k runs.
 
 pub returns-in-Err-clause-early : goal.returns-in-Err-clause-early
 returns-in-Err-clause-early g c = λ st k runs. (None, 0, c.settle.ensures.asked ∙ told_none (g.D.Desk.asked c.args.desk.now))
+
+-- what was asked where it failed
+pub returns-in-Err-ask_turn-clause-asked_kept : goal.returns-in-Err-ask_turn-clause-asked_kept
+returns-in-Err-ask_turn-clause-asked_kept g c = λ st k runs. inr (c.ask_turn.ensures.reads st (c.in-Ok.ensures.settled st k runs))
+
+pub returns-in-Err-clause-asked_kept : goal.returns-in-Err-clause-asked_kept
+returns-in-Err-clause-asked_kept g c = λ st k runs. inl c.settle.ensures.asked
+
+pub returns-in-Ok-ask_turn-clause-few_syncs : goal.returns-in-Ok-ask_turn-clause-few_syncs
+returns-in-Ok-ask_turn-clause-few_syncs g c =
+    let s = c.settle.ensures.few_syncs in
+    (s.0, s.1, c.ask_turn.ensures.syncs ∙ s.2)
+
+pub returns-in-Err-ask_turn-clause-few_syncs : goal.returns-in-Err-ask_turn-clause-few_syncs
+returns-in-Err-ask_turn-clause-few_syncs g c =
+    let s = c.settle.ensures.few_syncs in
+    (s.0, s.1, c.ask_turn.ensures.syncs ∙ s.2)

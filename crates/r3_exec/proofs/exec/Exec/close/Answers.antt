@@ -1,37 +1,43 @@
-use Rattle.std.proofs.Common.{◌≡◌, Some, not, sym, ap, ◌∙◌, subst}
+use Rattle.std.proofs.Common.{◌≡◌, Some, None, not, refl, sym, ap, ◌∙◌, subst}
 use Rattle.std.specs.Prelude.{T, bytes_eq}
-use Rattle.std.specs.FinMap.{find}
 use Rattle.std.specs.FinMap.Entries.{is_sorted, is_sorted-where_key}
 use Rattle.r3_rows.specs.Keys.{bytes_cmp}
 use Rattle.r3_model.specs.Language.{Text}
 use Rattle.r3_model.specs.Machine.{Begun, closed}
 use Rattle.r3_chain.proofs.PutLemmas.{found_is}
 use Rattle.r3_exec.specs.Runs.{ArePinned}
-use Rattle.r3_exec.proofs.Begun.{is_pinned, one_less, removed, none_closed}
+use Rattle.r3_exec.proofs.Begun.{removed, none_closed}
+use Rattle.r3_exec.proofs.Closing.{found_open, open_pinned, released}
 use Rattle.r3_exec.proofs.exec.Exec.close.Goals as goal
 
 pub release-requires : goal.release-requires
 release-requires c =
     let x = c.requires in
-    let found = sym (found_is bytes_cmp c.args.id.now c.args.self.now.begun.entries) ∙ sym c.in-Some.ensures.value in
-    is_pinned c.args.self.now.store.pins x.1 c.args.id.now c.in-Some.snap x.2.pins (subst (λ (es : Begun). find bytes_cmp c.args.id.now es ≡ Some c.in-Some.snap) x.2.snapshots found)
+    open_pinned c.args.self.now x.0 x.1 c.args.id.now c.in-Some.snap x.2 c.in-Some.ensures.value
+
+pub vacuum_when_due-requires : goal.vacuum_when_due-requires
+vacuum_when_due-requires c =
+    let x = c.requires in (
+      x.0,
+      closed c.args.id.now x.1,
+      released c.args.self.now _ x.0 x.1 c.args.id.now c.in-Some.snap x.2 c.in-Some.ensures.value refl c.in-Some.ensures.entries
+          (c.release.ensures.keeps x.0 x.2.store) c.release.ensures.one,
+    )
 
 pub returns-in-Some-clause-closed : goal.returns-in-Some-clause-closed
 returns-in-Some-clause-closed c = λ h begun keeps.
-    let id = c.args.id.now in
-    let es = c.args.self.now.begun.entries in
-    let found = sym (found_is bytes_cmp id es) ∙ sym c.in-Some.ensures.value in
-    let sorted = subst (λ (x : Begun). T (is_sorted bytes_cmp x)) (sym keeps.snapshots) keeps.in_order in
-    record {
-      store = c.release.ensures.keeps h keeps.store;
-      snapshots = c.in-Some.ensures.entries ∙ removed id es sorted ∙ ap (λ (x : Begun). closed id x) keeps.snapshots;
-      in_order = is_sorted-where_key bytes_cmp (λ (i : Text). not (bytes_eq i id)) begun keeps.in_order;
-      pins = one_less c.args.self.now.store.pins c.release.new.self.pins begun id c.in-Some.snap keeps.in_order
-          (subst (λ (x : Begun). find bytes_cmp id x ≡ Some c.in-Some.snap) keeps.snapshots found) c.release.ensures.one keeps.pins;
-      declared = keeps.declared;
-      queues = keeps.queues;
-      pending = keeps.pending;
-    }
+    c.vacuum_when_due.ensures.keeps h (closed c.args.id.now begun)
+    (released c.args.self.now _ h begun c.args.id.now c.in-Some.snap keeps c.in-Some.ensures.value refl c.in-Some.ensures.entries
+    (c.release.ensures.keeps h keeps.store) c.release.ensures.one)
+
+pub returns-in-Some-clause-due : goal.returns-in-Some-clause-due
+returns-in-Some-clause-due c = λ h begun snap keeps found long.
+    c.vacuum_when_due.ensures.due h (c.release.ensures.keeps h keeps.store) long
+
+pub returns-in-None-clause-due : goal.returns-in-None-clause-due
+returns-in-None-clause-due c = λ h begun snap keeps found long.
+    let none = found_open c.args.self.now h begun c.args.id.now _ keeps c.in-None.ensures.value in
+    absurd (let wrong : Some snap ≡ None = sym found ∙ none in cc)
 
 pub returns-in-None-clause-closed : goal.returns-in-None-clause-closed
 returns-in-None-clause-closed c = λ h begun keeps.
@@ -48,4 +54,5 @@ returns-in-None-clause-closed c = λ h begun keeps.
       declared = keeps.declared;
       queues = keeps.queues;
       pending = keeps.pending;
+      vacuumed = keeps.vacuumed;
     }

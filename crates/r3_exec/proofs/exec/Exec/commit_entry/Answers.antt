@@ -114,3 +114,13 @@ pub returns-in-Err-clause-crash : goal.returns-in-Err-clause-crash
 returns-in-Err-clause-crash g c = λ st k runs.
     by_images_settled g.D.Desk.may_leave g.D.Desk.moment g.D.Desk.reach g.D.Desk.said g.D.Desk.asked _ _ st.history k c.place.ensures.asked
     (c.place.ensures.crash st.history st.begun k (record { keeps = runs.stands.keeps; holds = runs.holds }))
+
+pub returns-in-Ok-clause-syncs : goal.returns-in-Ok-clause-syncs
+returns-in-Ok-clause-syncs g c =
+    let x = c.requires.commits in
+    c.place.ensures.syncs x.0.history x.2.stands.keeps.store (not_empty x.0.history x.2.stands.valid.begins)
+
+pub returns-in-Err-clause-syncs : goal.returns-in-Err-clause-syncs
+returns-in-Err-clause-syncs g c =
+    let x = c.requires.commits in
+    c.place.ensures.syncs x.0.history x.2.stands.keeps.store (not_empty x.0.history x.2.stands.valid.begins)

@@ -30,6 +30,6 @@ returns-in-Ok-clause-noted c = λ h e begun entered change.
     let known = subst (λ (o : Option (Text × Option FlowRow)). IsChange h e.writes o) c.in-Some.is change in
     let o = c.note_row.ensures.others in
     noted_some c.rows_follow.ensures.tell c.rows_follow.ensures.follow c.args.self.now c.note_row.new.self h e begun c.in-Some.id c.in-Some.old entered known
-    o.0 o.1 o.2 o.3
+    o.0 o.1 o.2 o.3 o.4
     (λ row there. subst (λ (x : Option FlowRow). queue.Follows c.args.self.now.queues c.note_row.new.self.queues c.in-Some.id x row
     × running.Follows c.args.self.now.pending c.note_row.new.self.pending c.in-Some.id x row) c.as_ref.ensures.value (c.in-Ok.ensures.noted (h ++ e ∷ []) row entered.store there))

@@ -27,5 +27,6 @@ returns-clause-opened c = λ h begun keeps none.
         declared = keeps.declared;
         queues = keeps.queues;
         pending = keeps.pending;
+        vacuumed = keeps.vacuumed;
       },
     )

@@ -1,4 +1,6 @@
-use Rattle.std.proofs.Common.{None, refl, ◌∙◌, subst}
+use Rattle.std.proofs.Common.{◌≡◌, ◌⊎◌, None, inl, refl, ◌∙◌, subst}
+use Rattle.std.specs.Option.{ForSome}
+use Rattle.r3_entry.specs.Image.{IsHistoryOf}
 use Rattle.r3_model.specs.Event.{Turn}
 use Rattle.r3_model.specs.Event as reply
 use Rattle.r3_model.specs.Machine.{snap_of}
@@ -9,6 +11,7 @@ use Rattle.r3_exec.specs.Turning.{Comes}
 use Rattle.r3_exec.specs.declared.turning.Turning.{Turning}
 use Rattle.r3_exec.proofs.Doing.{by_answer, told_none}
 use Rattle.r3_exec.proofs.Leaving.{quiet}
+use Rattle.r3_exec.proofs.Syncs.{no_more}
 use Rattle.r3_exec.proofs.TurnGives.{no_call}
 use Rattle.r3_exec.proofs.Turnings.{on_err}
 use Rattle.r3_exec.proofs.exec.Exec.turn_of.Goals as goal
@@ -67,3 +70,31 @@ pub returns-in-Ok-Commits-clause-early : goal.returns-in-Ok-Commits-clause-early
 returns-in-Ok-Commits-clause-early g c = λ st k runs.
     on_err c.commit_turn.result (AskedFirst (language c.args.self.now) st (Turn c.args.id.now) (g.D.Desk.asked c.args.desk.now) (g.D.Desk.asked c.commit_turn.new.desk))
     (None, 0, c.commit_turn.ensures.asked ∙ told_none (g.D.Desk.asked c.args.desk.now))
+
+pub returns-in-Ok-NotPending-clause-few_syncs : goal.returns-in-Ok-NotPending-clause-few_syncs
+returns-in-Ok-NotPending-clause-few_syncs g c = no_more (g.D.Desk.syncs c.args.desk.now) (g.D.Desk.syncs c.args.desk.now) refl 2
+
+pub returns-in-Ok-Unexpected-clause-few_syncs : goal.returns-in-Ok-Unexpected-clause-few_syncs
+returns-in-Ok-Unexpected-clause-few_syncs g c = no_more (g.D.Desk.syncs c.args.desk.now) (g.D.Desk.syncs c.args.desk.now) refl 2
+
+pub returns-in-Ok-Waiting-clause-few_syncs : goal.returns-in-Ok-Waiting-clause-few_syncs
+returns-in-Ok-Waiting-clause-few_syncs g c = no_more (g.D.Desk.syncs c.args.desk.now) (g.D.Desk.syncs c.args.desk.now) refl 2
+
+pub returns-in-Ok-Enters-clause-asked_kept : goal.returns-in-Ok-Enters-clause-asked_kept
+returns-in-Ok-Enters-clause-asked_kept g c = λ st k runs.
+    on_err c.enter_turn.result ((g.D.Desk.asked c.enter_turn.new.desk ≡ g.D.Desk.asked c.args.desk.now) ⊎ ForSome (g.D.Desk.image c.enter_turn.new.desk) (IsHistoryOf st.history))
+    (inl c.enter_turn.ensures.asked)
+
+pub returns-in-Ok-Enters-clause-few_syncs : goal.returns-in-Ok-Enters-clause-few_syncs
+returns-in-Ok-Enters-clause-few_syncs g c = no_more (g.D.Desk.syncs c.args.desk.now) (g.D.Desk.syncs c.enter_turn.new.desk) c.enter_turn.ensures.syncs 2
+
+pub returns-in-Ok-Commits-clause-asked_kept : goal.returns-in-Ok-Commits-clause-asked_kept
+returns-in-Ok-Commits-clause-asked_kept g c = λ st k runs.
+    on_err c.commit_turn.result ((g.D.Desk.asked c.commit_turn.new.desk ≡ g.D.Desk.asked c.args.desk.now) ⊎ ForSome (g.D.Desk.image c.commit_turn.new.desk) (IsHistoryOf st.history))
+    (inl c.commit_turn.ensures.asked)
+
+pub returns-in-Ok-Commits-clause-few_syncs : goal.returns-in-Ok-Commits-clause-few_syncs
+returns-in-Ok-Commits-clause-few_syncs g c = no_more (g.D.Desk.syncs c.args.desk.now) (g.D.Desk.syncs c.commit_turn.new.desk) c.commit_turn.ensures.syncs 2
+
+pub returns-in-Err-clause-few_syncs : goal.returns-in-Err-clause-few_syncs
+returns-in-Err-clause-few_syncs g c = no_more (g.D.Desk.syncs c.args.desk.now) (g.D.Desk.syncs c.args.desk.now) refl 2
