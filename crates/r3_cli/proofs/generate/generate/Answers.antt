@@ -1,4 +1,4 @@
-use Rattle.std.proofs.Common.{inl, inr, ⊎_elim, Some, refl, sym, subst}
+use Rattle.std.proofs.Common.{rules, inl, inr, ⊎_elim, Some, refl, sym, subst}
 use Rattle.r3_model.specs.Language.{Text}
 use Rattle.r3_gen.specs.declared.fault.GenFault.TheVariants as gens
 use Rattle.r3_recover.specs.declared.ends.StartFault.TheVariants as starts
@@ -10,7 +10,7 @@ use Rattle.r3_cli.proofs.Saying.{says-none, says-same}
 use Rattle.r3_cli.proofs.Leaving.{unbegun-first, opening}
 use Rattle.r3_cli.proofs.Refusing.{Opening-of, accept-early, at-accept, begun-ready, cause-accept, cause-of, ends-early, goes-more, no-fault-in, nothing-done, no-store, refused-at-file, store-is-taken}
 use Rattle.r3_cli.proofs.Working.{same-history}
-use Rattle.r3_cli.proofs.Generating.{IsLater, at-start, no-fault, gen-others, gen-not-this, gen-is-taken, gen-begun, gen-ended, gen-stopped}
+use Rattle.r3_cli.proofs.Generating.{IsLater, at-start, no-fault, gen-others, gen-not-this, gen-is-taken, gen-begun, gen-ended, gen-failed, gen-stopped}
 use Rattle.r3_cli.proofs.generate.generate.Goals as goal
 
 -- ---- the functions are refused
@@ -152,8 +152,8 @@ returns-in-Err-Memory-clause-goes g c = λ image h is history has.
 pub returns-in-Err-Say-clause-goes : goal.returns-in-Err-Say-clause-goes
 returns-in-Err-Say-clause-goes g c = λ image h is history has.
     let accepted : IsAccepted c.args.text.now c.in-Ok.program = subst (λ (x : Text). IsAccepted x c.in-Ok.program) c.as_bytes.ensures.value c.in-Ok.ensures.accepted in
-    gen-stopped g.D.Desk.size g.D.Desk.image g.D.Desk.may_leave g.D.Desk.moment g.D.Desk.reach g.D.Desk.said g.D.Desk.asked c.reads_as_settled.ensures.read c.reads_as_settled.ensures.crash c.one_history.ensures
-    c.args.desk.now c.run.new.desk c.args.text.now image h c.args.number c.args.count c.in-Ok.program accepted is history c.in-Err-Say.field-0 (subst IsLater (sym c.in-Err-Say.field-0-is) tt) c.in-Err-Say.ensures.stops
+    gen-failed g.D.Desk.size g.D.Desk.image g.D.Desk.may_leave g.D.Desk.moment g.D.Desk.reach g.D.Desk.said g.D.Desk.asked c.one_history.ensures c.args.desk.now c.run.new.desk c.args.text.now image h c.args.number c.args.count c.in-Ok.program accepted is history
+    (c.in-Err-Say.ensures.say_whole (search rules))
 
 pub returns-in-Ok-run-clause-file_first : goal.returns-in-Ok-run-clause-file_first
 returns-in-Ok-run-clause-file_first g c = λ none. absurd (none (c.in-Ok.program, (c.requires.short, subst (λ (x : Text). IsAccepted x c.in-Ok.program) c.as_bytes.ensures.value c.in-Ok.ensures.accepted)))

@@ -10,7 +10,7 @@ use Rattle.r3_cli.specs.declared.halt.Halt.TheVariants as halts
 use Rattle.r3_cli.specs.Going.{OfScript}
 use Rattle.r3_cli.proofs.Refusing.{begun-ready, cause-of, ends-early, goes-more}
 use Rattle.r3_cli.proofs.Working.{same-history}
-use Rattle.r3_cli.proofs.Running.{carry, opened-file, opened-begun, all-lines, too-long, source-failed, goes-all, goes-within, goes-cut, Whole, Part, CutOff}
+use Rattle.r3_cli.proofs.Running.{carry, opened-file, opened-begun, all-lines, too-long, source-failed, goes-all, goes-within, goes-cut, goes-failed, Whole, Part, CutOff, Failed}
 use Rattle.r3_cli.proofs.run.run.Goals as goal
 
 -- ---- nothing was opened
@@ -183,11 +183,11 @@ returns-in-Err-Memory-clause-goes g c = λ text image script h there is left his
 pub returns-in-Err-Say-clause-goes : goal.returns-in-Err-Say-clause-goes
 returns-in-Err-Say-clause-goes g c = λ text image script h there is left history has.
     let b = c.in-Ok.ensures.begins in
-    carry (Part g.D.Desk.image g.D.Desk.may_leave g.D.Desk.moment g.D.Desk.reach g.D.Desk.said g.D.Desk.asked c.args.desk.now c.serve_script-end.new.desk (script_lines script)) text b.0 h b.1 (b.2 text there)
+    carry (Failed g.D.Desk.image g.D.Desk.may_leave g.D.Desk.moment g.D.Desk.reach g.D.Desk.said g.D.Desk.asked c.args.desk.now c.serve_script-end.new.desk script) text b.0 h b.1 (b.2 text there)
     (same-history c.one_history.ensures (g.D.Desk.image c.args.desk.now) image b.1 h b.3.history is history)
-    (goes-within g.D.Desk.size g.D.Desk.image g.D.Desk.may_leave g.D.Desk.moment g.D.Desk.reach g.D.Desk.said g.D.Desk.asked c.reads_as_settled.ensures.read c.reads_as_settled.ensures.crash
+    (goes-failed g.D.Desk.size g.D.Desk.image g.D.Desk.may_leave g.D.Desk.moment g.D.Desk.reach g.D.Desk.said g.D.Desk.asked c.reads_as_settled.ensures.read c.reads_as_settled.ensures.crash
     c.args.desk.now c.serve_script-end.new.desk c.serve_script-end.new.session.exec c.in-Ok.session.exec.program c.serve_script-end.ensures.program b.0 b.1 b.3
-    c.serve_script-end.result c.in-Err-Say.field-0 c.in-Err-Say.is script (c.serve_script-end.ensures.stops c.args.desk.now b.0 b.1 [] script b.4 left))
+    script (c.serve_script-end.ensures.say_whole c.args.desk.now b.0 b.1 [] script b.4 left (search rules)))
 
 pub returns-in-Err-Source-clause-goes : goal.returns-in-Err-Source-clause-goes
 returns-in-Err-Source-clause-goes g c = λ text image script h there is left history has.
