@@ -131,9 +131,12 @@ module _ {D : Type 0} (size : D → Option ℕ) (image : D → Option Text) (may
       → image from ≡ Some c → IsHistoryOf h c
       → (k : List Entry) × ForSome (image from) (IsHistoryOf k) × HasProgram k text × SummaryFailed image moment reach said asked from now (language_of items) text k (generated number count) count
       → DrewInPart from now text h number count
-  gen-failed one from now text c h number count items accepted is history x =
-      (items, accepted, subst (λ (h' : List Entry). SummaryFailed image moment reach said asked from now (language_of items) text h' (generated number count) count)
-      (same-history one (image from) c x.0 h x.1 is history) x.3)
+  gen-failed one from now text c h number count items accepted is history x = (
+    items,
+    accepted,
+    subst (λ (h' : List Entry). SummaryFailed image moment reach said asked from now (language_of items) text h' (generated number count) count)
+        (same-history one (image from) c x.0 h x.1 is history) x.3,
+  )
 
   -- it has ended early
   pub gen-early : Reads → Settles → (from now : D) (exec : Exec) (text : Text) (h k : List Entry) (number count : ℕ) (items : List Item)

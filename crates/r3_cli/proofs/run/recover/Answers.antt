@@ -78,10 +78,11 @@ returns-in-Err-Say-clause-store_first g c = λ text image there is none.
 
 pub returns-in-Ok-end-clause-causes : goal.returns-in-Ok-end-clause-causes
 returns-in-Ok-end-clause-causes g c = λ text left there.
-    let b = c.in-Ok.ensures.begins in
-    ((opened-file text b.0 (g.D.Desk.image c.args.desk.now) c.in-Ok.session.exec.program b.1 (b.2 text there) b.3, c.in-Ok.ensures.faultless text there),
-    opened-begun text b.0 (g.D.Desk.image c.args.desk.now) c.in-Ok.session.exec.program b.1 (b.2 text there) b.3,
-    tt)
+    let b = c.in-Ok.ensures.begins in (
+      (opened-file text b.0 (g.D.Desk.image c.args.desk.now) c.in-Ok.session.exec.program b.1 (b.2 text there) b.3, c.in-Ok.ensures.faultless text there),
+      opened-begun text b.0 (g.D.Desk.image c.args.desk.now) c.in-Ok.session.exec.program b.1 (b.2 text there) b.3,
+      tt,
+    )
 
 -- ---- what it has come to
 

@@ -28,9 +28,11 @@ pub returns-in-Err-clause-file_first : goal.returns-in-Err-clause-file_first
 returns-in-Err-clause-file_first g c = λ text there none. let x = c.in-Err.ensures.file_first text there none in (x.0, refl, x.1)
 
 pub returns-in-Err-clause-store_first : goal.returns-in-Err-clause-store_first
-returns-in-Err-clause-store_first g c = λ text image there is none.
-    (refl, ends-early g.D.Desk.image g.D.Desk.said g.D.Desk.asked c.args.desk.now c.begin.new.desk text c.in-Err.halt
-    (c.in-Err.ensures.refuses text there) c.in-Err.ensures.early c.in-Err.ensures.unsaid)
+returns-in-Err-clause-store_first g c = λ text image there is none. (
+  refl,
+  ends-early g.D.Desk.image g.D.Desk.said g.D.Desk.asked c.args.desk.now c.begin.new.desk text c.in-Err.halt
+      (c.in-Err.ensures.refuses text there) c.in-Err.ensures.early c.in-Err.ensures.unsaid,
+)
 
 -- ---- it was opened: the function file is taken, and the store is this program's
 
@@ -104,18 +106,20 @@ returns-in-Err-TooLong-clause-store_first g c = λ text image there is none.
 
 pub returns-in-Ok-end-clause-causes : goal.returns-in-Ok-end-clause-causes
 returns-in-Ok-end-clause-causes g c = λ text there.
-    let b = c.in-Ok.ensures.begins in
-    ((opened-file text b.0 (g.D.Desk.image c.args.desk.now) c.in-Ok.session.exec.program b.1 (b.2 text there) b.3, c.in-Ok.ensures.faultless text there),
-    opened-begun text b.0 (g.D.Desk.image c.args.desk.now) c.in-Ok.session.exec.program b.1 (b.2 text there) b.3,
-    λ script is. (c.in-Ok-end.ensures.serves c.args.desk.now b.0 b.1 [] script b.4 is).0)
+    let b = c.in-Ok.ensures.begins in (
+      (opened-file text b.0 (g.D.Desk.image c.args.desk.now) c.in-Ok.session.exec.program b.1 (b.2 text there) b.3, c.in-Ok.ensures.faultless text there),
+      opened-begun text b.0 (g.D.Desk.image c.args.desk.now) c.in-Ok.session.exec.program b.1 (b.2 text there) b.3,
+      λ script is. (c.in-Ok-end.ensures.serves c.args.desk.now b.0 b.1 [] script b.4 is).0,
+    )
 
 pub returns-in-Err-TooLong-clause-causes : goal.returns-in-Err-TooLong-clause-causes
 returns-in-Err-TooLong-clause-causes g c = λ text there.
     let at : ◌≡◌ {A = Result (Unit {0}) ScriptStop} c.serve_script-end.result (Err stops.TooLong) = search rules in
-    let b = c.in-Ok.ensures.begins in
-    ((opened-file text b.0 (g.D.Desk.image c.args.desk.now) c.in-Ok.session.exec.program b.1 (b.2 text there) b.3, c.in-Ok.ensures.faultless text there),
-    opened-begun text b.0 (g.D.Desk.image c.args.desk.now) c.in-Ok.session.exec.program b.1 (b.2 text there) b.3,
-    λ script is. (c.serve_script-end.ensures.long c.args.desk.now b.0 b.1 [] script b.4 is at).0)
+    let b = c.in-Ok.ensures.begins in (
+      (opened-file text b.0 (g.D.Desk.image c.args.desk.now) c.in-Ok.session.exec.program b.1 (b.2 text there) b.3, c.in-Ok.ensures.faultless text there),
+      opened-begun text b.0 (g.D.Desk.image c.args.desk.now) c.in-Ok.session.exec.program b.1 (b.2 text there) b.3,
+      λ script is. (c.serve_script-end.ensures.long c.args.desk.now b.0 b.1 [] script b.4 is at).0,
+    )
 
 -- ---- what it has come to
 

@@ -113,8 +113,7 @@ returns-in-Err-clause-functions g c = λ form text at there.
 
 pub returns-in-Err-clause-words_first : goal.returns-in-Err-clause-words_first
 returns-in-Err-clause-words_first g c = λ none.
-    let x = c.in-Err.ensures.words_first none in
-    (
+    let x = c.in-Err.ensures.words_first none in (
       usage-at-once g.D.Desk.image g.D.Desk.may_leave g.D.Desk.moment g.D.Desk.reach g.D.Desk.said g.D.Desk.asked c.args.desk.now c.command.new.desk c.end.new.desk c.end.result c.in-Err.halt x.0
           (⊎_elim (λ u. inl (err-same c.in-Err.halt halts.Usage u)) (λ m. inr (err-same c.in-Err.halt halts.Memory m)) x.3) c.end.ensures.own c.end.ensures.closes,
       neither-from g.D.Desk.size g.D.Desk.syncs g.D.Desk.disk_faults g.D.Desk.ask_faults c.args.desk.now c.command.new.desk c.end.new.desk x.0 c.end.ensures.neither,
@@ -129,8 +128,7 @@ pub returns-in-Err-clause-shelf_first : goal.returns-in-Err-clause-shelf_first
 returns-in-Err-clause-shelf_first g c = λ changed.
     let E : Halt → Result (Unit {0}) Halt = λ (h : Halt). Err h in
     let is : c.in-Err.halt ≡ halts.Files = only-files c.in-Err.halt (λ none. c.in-Err.ensures.files_kept (λ e. none (err-same c.in-Err.halt halts.Files e))) changed in
-    let x = c.in-Err.ensures.files (ap E is) in
-    (
+    let x = c.in-Err.ensures.files (ap E is) in (
       own-status c.end.result c.in-Err.halt halts.Files c.end.ensures.own is (λ l. l),
       silent-same g.D.Desk.image g.D.Desk.may_leave g.D.Desk.moment g.D.Desk.reach g.D.Desk.said g.D.Desk.asked c.args.desk.now c.command.new.desk c.end.new.desk c.end.result c.in-Err.halt halts.Files is (λ l. l) c.end.ensures.closes ∙ x.1,
       x.2,
@@ -141,8 +139,7 @@ returns-in-Ok-clause-file_first g c = λ form text at there none. absurd (c.in-O
 
 pub returns-in-Err-clause-file_first : goal.returns-in-Err-clause-file_first
 returns-in-Err-clause-file_first g c = λ form text at there none.
-    let x = c.in-Err.ensures.file_first form text at there none in
-    (
+    let x = c.in-Err.ensures.file_first form text at there none in (
       c.in-Err.halt,
       x.2,
       at-once g.D.Desk.image g.D.Desk.may_leave g.D.Desk.moment g.D.Desk.reach g.D.Desk.said g.D.Desk.asked c.args.desk.now c.command.new.desk c.end.new.desk c.end.result c.in-Err.halt x.0 c.end.ensures.closes,
