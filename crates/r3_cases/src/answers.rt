@@ -125,14 +125,21 @@ pub fn value_words(alloc: Global, value: &Val) -> Result<String, Memory> {
     }
 }
 
-fn outcome_words(alloc: Global, outcome: &Option<Outcome>) -> Result<String, Memory> {
+/// What a step or a workflow gave.
+pub fn outcome_words(alloc: Global, outcome: &Outcome) -> Result<String, Memory> {
     match outcome {
-        None => words_of(alloc, "none"),
-        Some(Outcome::Value(value)) => {
+        Outcome::Value(value) => {
             let word = value_words(alloc, value)?;
             Ok(format!(in alloc; "value {}", word.as_str())?)
         }
-        Some(Outcome::Failure(word)) => Ok(format!(in alloc; "failure {}", word.as_str())?),
+        Outcome::Failure(word) => Ok(format!(in alloc; "failure {}", word.as_str())?),
+    }
+}
+
+fn ended_words(alloc: Global, outcome: &Option<Outcome>) -> Result<String, Memory> {
+    match outcome {
+        None => words_of(alloc, "none"),
+        Some(outcome) => outcome_words(alloc, outcome),
     }
 }
 
@@ -147,7 +154,7 @@ fn text_or_none(text: &Option<Txt>) -> &str {
 /// it, the recoveries, the parent.
 pub fn flow_words(alloc: Global, row: &FlowRow) -> Result<String, Memory> {
     let args = value_words(alloc, &row.args)?;
-    let outcome = outcome_words(alloc, &row.outcome)?;
+    let outcome = ended_words(alloc, &row.outcome)?;
     Ok(format!(in alloc;
         "{} {}{}; {}; queue {}; started {}; attempts {}; parent {}",
         status_word(row.status),
@@ -176,7 +183,7 @@ pub fn asked_words(alloc: Global, desk: &MemDesk) -> Result<String, Memory> {
     let mut words = String::new(alloc);
     for call in desk.asked() {
         let args = value_words(alloc, &call.args)?;
-        let answer = outcome_words(alloc, &call.answer)?;
+        let answer = ended_words(alloc, &call.answer)?;
         let call = format!(in alloc;
             "{} {} {}{}: {}; ",
             call.id.as_str(),

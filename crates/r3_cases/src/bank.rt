@@ -59,6 +59,41 @@ flow spin(m) {
 }
 "#;
 
+/// Accounts that are opened, closed and summed up.
+pub const LEDGER: &str = r#"table acct;
+table sums;
+txn total(lo, hi) {
+  let rows = scan acct[lo, hi];
+  let sum = 0;
+  each row in rows { set sum = sum + row[1]; }
+  put sums[lo] = sum;
+  return sum;
+}
+txn remove(k) { let x = get acct[k]; delete acct[k]; return x; }
+txn add(k, n) {
+  let x = get acct[k];
+  if x != null { fail "there"; }
+  put acct[k] = n;
+  return n;
+}
+flow sum(lo, hi) { let r = call total(lo, hi); return r; }
+flow close(k) { let r = call remove(k); return r; }
+flow open(k, n) { let r = call add(k, n); return r; }
+"#;
+
+/// Workflows that end in each way, and some that await them.
+pub const FAMILY: &str = r#"queue line 1;
+outside tell(n);
+flow child(n) {
+  if n == 1 { return 7; }
+  if n == 2 { fail "broken"; }
+  do call tell(n);
+  return 0;
+}
+flow parent(n) { let c = spawn child(n); let r = await c; return r; }
+flow wait(on) { let r = await on; return r; }
+"#;
+
 /// The program of a text of at most 2^20 bytes. The cases have no other text and no other faults than want of
 /// memory.
 pub fn program_of(alloc: Global, text: &str) -> Result<Checked, Memory>

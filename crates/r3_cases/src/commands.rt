@@ -1,7 +1,7 @@
 //! Commands, from their words.
 
 ghost use Rattle.std.specs.Prelude.{◌≡◌, IfOk, IfSome};
-ghost use Rattle.r3_entry.specs.Limits.{IsRowKey, IsVal};
+ghost use Rattle.r3_entry.specs.Limits.{IfThere, IsRowKey, IsVal};
 ghost use Rattle.r3_model.specs.Fits.{IsListed, IsText};
 ghost use Rattle.r3_exec.specs.Fit.{IsGiven};
 
@@ -18,6 +18,17 @@ fn text_of(alloc: Global, word: &str) -> Result<Text, Memory>
     // It tells that the text is UTF-8.
     let _word = text.as_str();
     Ok(text)
+}
+
+// The word `_` stands for no ID.
+fn id_of(alloc: Global, word: &str) -> Result<Option<Text>, Memory>
+    ensures { IfOk result (IfThere IsText) }
+{
+    if word == "_" {
+        return Ok(None);
+    }
+    let id = text_of(alloc, word)?;
+    Ok(Some(id))
 }
 
 // Decimal digits are a number, and any other word is a text.
@@ -76,6 +87,22 @@ fn load(alloc: Global, table: &str) -> Result<Command, Memory>
     })
 }
 
+// One row.
+fn put(alloc: Global, table: &str, key: &str, number: &str) -> Result<Option<Command>, Memory>
+    ensures { IfOk result (λ c. IfSome c IsGiven) }
+{
+    let number = match number.parse::<i64>() {
+        Ok(number) => number,
+        Err(_) => return Ok(None),
+    };
+    let row = row_of(alloc, key, number)?;
+    let rows = vec![in alloc; row]?;
+    Ok(Some(Command::Load {
+        table: text_of(alloc, table)?,
+        rows: Items::from_vec(rows),
+    }))
+}
+
 fn fork(alloc: Global, source: &str, step: &str, to: &str) -> Result<Option<Command>, Memory>
     ensures { IfOk result (λ c. IfSome c IsGiven) }
 {
@@ -84,14 +111,14 @@ fn fork(alloc: Global, source: &str, step: &str, to: &str) -> Result<Option<Comm
         return Ok(None);
     }
     let source = text_of(alloc, source)?;
-    let to = Some(text_of(alloc, to)?);
+    let to = id_of(alloc, to)?;
     Ok(Some(Command::Fork { source, step, to }))
 }
 
 fn start(alloc: Global, id: &str, function: &str, args: &[&str]) -> Result<Command, Memory>
     ensures { IfOk result IsGiven }
 {
-    let id = Some(text_of(alloc, id)?);
+    let id = id_of(alloc, id)?;
     let function = text_of(alloc, function)?;
     let args = args_of(alloc, args)?;
     Ok(Command::Start { id, function, args })
@@ -106,7 +133,7 @@ fn enqueue(
 ) -> Result<Command, Memory>
     ensures { IfOk result IsGiven }
 {
-    let id = Some(text_of(alloc, id)?);
+    let id = id_of(alloc, id)?;
     let queue = text_of(alloc, queue)?;
     let function = text_of(alloc, function)?;
     let args = args_of(alloc, args)?;
@@ -124,6 +151,7 @@ pub fn command_of(alloc: Global, words: &[&str]) -> Result<Option<Command>, Memo
 {
     match words {
         ["load", table] => Ok(Some(load(alloc, table)?)),
+        ["put", table, key, number] => put(alloc, table, key, number),
         ["start", id, function, args @ ..] => Ok(Some(start(alloc, id, function, args)?)),
         ["enqueue", id, queue, function, args @ ..] => {
             Ok(Some(enqueue(alloc, id, queue, function, args)?))

@@ -8,13 +8,21 @@ mod answers;
 #[cfg(test)]
 mod bank;
 #[cfg(test)]
+mod children;
+#[cfg(test)]
 mod commands;
 #[cfg(test)]
+mod entries;
+#[cfg(test)]
 mod faults;
+#[cfg(test)]
+mod histories;
 #[cfg(test)]
 mod play;
 #[cfg(test)]
 mod queues;
+#[cfg(test)]
+mod rows;
 #[cfg(test)]
 mod steps;
 #[cfg(test)]

@@ -1,9 +1,8 @@
 -- The entry of a program, the first of a store.
-use Rattle.std.proofs.Common.{◌≡◌, ℕ, ◌+◌, ◌<◌, ◌≤◌, ◌^◌, false, List, [], ◌∷◌, ◌++◌, map, length, Option, Some, None, refl, sym, ap, ◌∙◌, arith}
-use Rattle.std.specs.Prelude.{IsTrue, nat_le, nat_lt}
+use Rattle.std.proofs.Common.{◌≡◌, ℕ, ◌+◌, ◌<◌, ◌≤◌, ◌^◌, false, [], ◌∷◌, length, None, refl, ap, arith}
+use Rattle.std.specs.Prelude.{IsTrue, nat_lt}
 use Rattle.std.specs.Str.{is_utf8}
 use Rattle.std.proofs.lemmas.Bool.Decides.{nat_tests}
-use Rattle.r3_value.specs.declared.value.Outcome.{Outcome}
 use Rattle.r3_entry.specs.declared.entry.Entry.{Entry}
 use Rattle.r3_entry.specs.Bytes.{entry, size}
 use Rattle.r3_entry.specs.Formed.{Follows}
@@ -16,7 +15,7 @@ use Rattle.r3_model.specs.Machine.{Out, State, entered, full_of}
 use Rattle.r3_model.specs.Run.{from_state, restarted}
 use Rattle.r3_gate.specs.declared.fault.Limit.{Limit}
 use Rattle.r3_gate.specs.declared.fault.Limit.TheVariants.{Entries, Bytes}
-use Rattle.r3_laws.specs.OfStates.{IsLight, LightFits}
+use Rattle.r3_laws.specs.OfStates.{LightFits}
 use Rattle.r3_recover.specs.Opened.{OpensTo}
 use Rattle.r3_recover.proofs.Nexts.{next-comes}
 

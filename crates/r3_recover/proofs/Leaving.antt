@@ -14,7 +14,7 @@ use Rattle.r3_model.specs.Held.{Mark, asked_by}
 use Rattle.r3_exec.specs.Does.{Leaves, SyncsWithin, told_of, told_after}
 use Rattle.r3_recover.specs.Kept.{IsKept, LeavesKept}
 use Rattle.r3_recover.specs.Rounds.{AreWithin}
-use Rattle.r3_recover.proofs.Owing.{owed-within, owed-first, owed-before, within-more, within-higher}
+use Rattle.r3_recover.proofs.Owing.{owed-within, owed-first, within-more, within-higher}
 
 -- a prefix of a history is one of the history with more behind it
 pub kept-first : (h xs : List Entry) (k : ℕ) (marks more : List Mark) (j : ℕ) (c : List ℕ) → j ≤ asked_by marks → IsKept h k marks j c → IsKept (h ++ xs) k (marks ++ more) j c
@@ -45,16 +45,6 @@ kept-settled h xs k now marks more j c le within w few is = kept-first h xs k ma
   owed_kept = owed-within now marks 0 j w;
   history_of = is;
 })
-
--- with all that was owed to more calls, what was owed to the first is kept
-pub kept-before : (h : List Entry) (k : ℕ) (marks more : List Mark) (j i : ℕ) (c : List ℕ) → j ≤ i → IsKept h k (marks ++ more) i c → IsKept h k marks j c
-kept-before h k marks more j i c le p = record {
-  len = p.len;
-  within = p.within;
-  settled_kept = p.settled_kept;
-  owed_kept = omega (arith, owed-before marks more 0 j i le, p.owed_kept);
-  history_of = p.history_of;
-}
 
 module _ {D : Type 0} (may_leave : D → List ℕ → Type 0) (moment : D → ℕ) (reach : D → Reach) (said : D → Option (List ℕ)) (asked : D → Option (List desk.Call)) where
   pub leaves-more : (old mid new : D) (h xs : List Entry) (k now : ℕ) (marks more : List Mark)

@@ -1,7 +1,7 @@
 mod Asking
 mod Nexts
-pub mod Owing
-pub mod Leaving
+mod Owing
+mod Leaving
 mod Phases
 mod Points
 mod There

@@ -1,13 +1,12 @@
 -- From one point of an opening to the next.
-use Rattle.std.proofs.Common.{◌≡◌, ◌≢◌, ◌⊎◌, inl, inr, ℕ, ◌+◌, ◌-◌, ◌*◌, ◌≤◌, List, [], ◌∷◌, ◌++◌, length, map, take, Option, Some, None, refl, sym, ap, ◌∙◌, subst, ⊎_elim, arith}
+use Rattle.std.proofs.Common.{◌≡◌, ◌≢◌, ◌⊎◌, inl, ℕ, ◌+◌, ◌-◌, ◌*◌, ◌≤◌, List, [], ◌∷◌, length, take, Option, Some, None, refl, sym, ap, ◌∙◌, subst, ⊎_elim, arith}
 use Rattle.std.proofs.lemmas.List.{take-append-le}
 use Rattle.std.proofs.Math.Seq.{take-length}
 use Rattle.std.specs.Option.{ForSome, option_map}
-use Rattle.r3_value.specs.declared.value.Outcome.{Outcome}
 use Rattle.r3_entry.specs.declared.entry.Entry.{Entry}
 use Rattle.r3_entry.specs.Image.{IsHistoryOf}
 use Rattle.r3_desk.specs.Asked as desk
-use Rattle.r3_desk.specs.Crash.{Reach, LeavesOnly}
+use Rattle.r3_desk.specs.Crash.{Reach}
 use Rattle.r3_desk.specs.Disk.{told_len}
 use Rattle.r3_desk.specs.Moments.{LeavesImage, leaves_then, image_then}
 use Rattle.r3_store.specs.Holds.{Holds}
@@ -15,19 +14,19 @@ use Rattle.r3_store.specs.Opened.{Opens}
 use Rattle.r3_store.specs.declared.store.Store.{Store}
 use Rattle.sys_flow.specs.declared.command.Command.TheVariants.{Recover}
 use Rattle.r3_model.specs.Language.{Language, Text}
-use Rattle.r3_model.specs.Event.{Call, Event, Reply, Run}
+use Rattle.r3_model.specs.Event.{Call, Reply, Run}
 use Rattle.r3_model.specs.Functions.{language_of}
 use Rattle.r3_model.specs.Goes.{Steps}
 use Rattle.r3_model.specs.Laws.{OnlyAppends}
-use Rattle.r3_model.specs.Machine.{Out, State, calls_of, full_of}
-use Rattle.r3_model.specs.Run.{Trail, from_state, next, pending_ids, restarted, run}
+use Rattle.r3_model.specs.Machine.{Out, State, full_of}
+use Rattle.r3_model.specs.Run.{Trail, from_state, next, pending_ids, restarted}
 use Rattle.r3_exec.specs.Runs.{Runs, Stands, language}
 use Rattle.r3_exec.specs.Does.{Does, Leaves, SyncsWithin, settled_by}
 use Rattle.r3_exec.specs.declared.exec.Exec.{Exec}
-use Rattle.r3_recover.specs.Kept.{IsKept, LeavesKept}
+use Rattle.r3_recover.specs.Kept.{LeavesKept}
 use Rattle.r3_recover.specs.Drained.{Comes}
 use Rattle.r3_recover.specs.Opened.{HasOpened, HasProgram, OpensTo}
-use Rattle.r3_recover.specs.Recovering.{IsTaken, Leads, Recovers, recoveries}
+use Rattle.r3_recover.specs.Recovering.{IsTaken, Leads, Recovers}
 use Rattle.r3_recover.proofs.FirstEntry.{first_entry, first-opens}
 use Rattle.r3_recover.proofs.Leaving.{kept-first, leaves-more}
 use Rattle.r3_recover.proofs.Nexts.{comes-then, next-comes, nothing-comes}

@@ -62,16 +62,3 @@ pub settled-more : (settled : ℕ) (marks more : List Mark) → settled_by settl
 settled-more settled [] more = refl
 settled-more settled (Said bytes kept ∷ marks) more = settled-more settled marks more
 settled-more settled (Asked kept ∷ marks) more = settled-more kept marks more
-
--- ---- fewer calls, and fewer marks
-
-due-less : (m n kept : ℕ) → m ≤ n → due m kept ≤ due n kept
-due-less zero n kept le = omega arith
-due-less (suc m) zero kept le = absurd (omega (arith, le))
-due-less (suc m) (suc n) kept le = omega arith
-
--- what is owed of the first marks, for fewer calls, is owed
-pub owed-before : (marks more : List Mark) (n m k : ℕ) → m ≤ k → owed marks n m ≤ owed (marks ++ more) n k
-owed-before [] more n m k le = omega arith
-owed-before (Said bytes kept ∷ marks) more n m k le = omega (arith, owed-before marks more (n - bytes) m k le)
-owed-before (Asked kept ∷ marks) more n m k le = omega (arith, due-less m k kept le, owed-before marks more n (m - 1) (k - 1) (omega (arith, le)))

@@ -1,7 +1,7 @@
 //! Function files that are taken or refused, and command lines.
 
-use super::bank::BANK;
 use super::{NONE, RUN, left_by};
+use r3_gen::BANK;
 use std::alloc::Global;
 use std::test::Fail;
 

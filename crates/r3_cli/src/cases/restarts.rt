@@ -1,7 +1,8 @@
 //! Second runs over one store: recoveries, repeats and `recover`.
 
-use super::bank::BANK;
-use super::{NONE, RECOVER, RUN, left_by};
+use super::history::acts_of;
+use super::{NONE, RECOVER, RUN, answered, has_told, left_by};
+use r3_gen::BANK;
 use std::test::Fail;
 
 // What a first run answers, and a second one over its store.
@@ -34,68 +35,17 @@ const REPEATED: [(&str, &str); 2] = [
 
 #[test]
 fn a_start_is_answered_alike_before_and_after_a_restart(rt: HostRuntime) -> Result<(), Fail> {
-    let mut image = Vec::new(rt.alloc());
-    let mut asked = 0;
-    for (script, replies) in REPEATED {
-        let left = left_by(
-            rt.alloc(),
-            RUN,
-            &image,
-            BANK.as_bytes(),
-            script.as_bytes(),
-            &NONE,
-        )?;
-        assert_eq!(rt; left.said.as_slice(), replies.as_bytes());
-        assert_eq!(rt; left.status, 0);
-        image = left.desk.image().to_vec(rt.alloc())?;
-        asked = left.asked;
-    }
-    assert_eq!(rt; asked, 1);
-    Ok(())
-}
-
-// What a crash leaves after the outside was asked and before its answer is stored, and the run behind it.
-const CUT: [(&str, &str); 2] = [
-    (
-        r#"{"load":"acct","rows":{"a":10,"b":5,"c":0}}
-{"start":"m1","fn":"move","args":["a","b",3]}
-{"turn":"m1"}
-{"turn":"m1"}
-"#,
-        r#"{"entry":2}
-{"entry":3,"id":"m1"}
-{"began":3}
-{"entry":4}
-"#,
-    ),
-    (
-        r#"{"drain":100}
-{"load":"acct","rows":{"c":1}}
-"#,
-        r#"{"drain":"idle","turns":5}
-{"entry":8}
-"#,
-    ),
-];
-
-#[test]
-fn the_outside_is_asked_again_after_a_crash(rt: HostRuntime) -> Result<(), Fail> {
-    let mut image = Vec::new(rt.alloc());
-    let mut asked = 0;
-    for (script, replies) in CUT {
-        let left = left_by(
-            rt.alloc(),
-            RUN,
-            &image,
-            BANK.as_bytes(),
-            script.as_bytes(),
-            &NONE,
-        )?;
-        assert_eq!(rt; left.said.as_slice(), replies.as_bytes());
-        image = left.desk.image().to_vec(rt.alloc())?;
-        asked = left.asked;
-    }
-    assert_eq!(rt; asked, 1);
+    let [(script, replies), (again, repeated)] = REPEATED;
+    let first = answered(&rt, rt.alloc(), BANK, b"", script.as_bytes(), replies)?;
+    let image = first.desk.image();
+    let second = answered(&rt, rt.alloc(), BANK, image, again.as_bytes(), repeated)?;
+    assert_eq!(rt; first.asked, 0);
+    assert!(rt; has_told(rt.alloc(), &second.desk, &["m1"])?);
+    let acts = acts_of(rt.alloc(), second.desk.image())?;
+    assert_eq!(rt;
+        acts.as_str(),
+        "program load start recover txn outside finish "
+    );
     Ok(())
 }
 
@@ -133,32 +83,57 @@ fn recover_drains_what_was_left(rt: HostRuntime) -> Result<(), Fail> {
     Ok(())
 }
 
-const STATUS: &str = "{\"status\":\"w1\"}\n";
+// A workflow that waits for another, and nothing else.
+const WAITING: &str = "queue mail 1; flow wait(me) { let r = await me; return r; }";
+
+const STATUS: &[u8] = b"{\"status\":\"w1\"}\n";
+
+// What such a workflow answers: it has entry 2, and each of its 51 recoveries has one.
+const OUT_OF_ATTEMPTS: (&str, &str) = (
+    r#"{"turn":"w1"}
+{"cancel":"w1"}
+{"start":"w2","fn":"wait","args":["w1"]}
+{"turn":"w2"}
+{"turn":"w2"}
+{"status":"w2"}
+{"resume":"w1"}
+{"status":"w1"}
+"#,
+    r#"{"none":"MAX_RECOVERY_ATTEMPTS_EXCEEDED"}
+{"refused":"status","status":"MAX_RECOVERY_ATTEMPTS_EXCEEDED"}
+{"entry":54,"id":"w2"}
+{"entry":55}
+{"entry":56}
+{"args":["w1"],"attempts":0,"fn":"wait","id":"w2","outcome":{"failure":"attempts"},"parent":null,"queue":null,"started":54,"status":"ERROR"}
+{"entry":57}
+{"args":["w1"],"attempts":0,"fn":"wait","id":"w1","outcome":null,"parent":null,"queue":null,"started":2,"status":"PENDING"}
+"#,
+);
 
 #[test]
 fn a_workflow_is_recovered_fifty_times(rt: HostRuntime) -> Result<(), Fail> {
+    let alloc = rt.alloc();
     let start = b"{\"start\":\"w1\",\"fn\":\"wait\",\"args\":[\"w1\"]}\n{\"turn\":\"w1\"}\n";
-    let first = left_by(rt.alloc(), RUN, b"", BANK.as_bytes(), start, &NONE)?;
-    let mut image = first.desk.image().to_vec(rt.alloc())?;
+    let replies = "{\"entry\":2,\"id\":\"w1\"}\n{\"waiting\":\"w1\"}\n";
+    let first = answered(&rt, alloc, WAITING, b"", start, replies)?;
+    let mut image = first.desk.image().to_vec(alloc)?;
     for run in 1..=52_u32 {
-        let left = left_by(
-            rt.alloc(),
-            RUN,
-            &image,
-            BANK.as_bytes(),
-            STATUS.as_bytes(),
-            &NONE,
-        )?;
         let (attempts, status) = match run {
             1..=50 => (run, "PENDING"),
             _ => (51, "MAX_RECOVERY_ATTEMPTS_EXCEEDED"),
         };
-        let row = format!(in rt.alloc();
+        let row = format!(in alloc;
             "{{\"args\":[\"w1\"],\"attempts\":{attempts},\"fn\":\"wait\",\"id\":\"w1\",\"outcome\":null,\"parent\":null,\"queue\":null,\"started\":2,\"status\":\"{status}\"}}\n"
         )?;
-        assert_eq!(rt; left.said.as_slice(), row.as_bytes());
-        assert_eq!(rt; left.desk.image().len() == image.len(), run == 52);
-        image = left.desk.image().to_vec(rt.alloc())?;
+        let left = answered(&rt, alloc, WAITING, &image, STATUS, row.as_str())?;
+        assert_eq!(rt;
+            left.desk.image() == image.as_slice(),
+            run == 52,
+            "run {run}"
+        );
+        image = left.desk.image().to_vec(alloc)?;
     }
+    let (script, replies) = OUT_OF_ATTEMPTS;
+    answered(&rt, alloc, WAITING, &image, script.as_bytes(), replies)?;
     Ok(())
 }

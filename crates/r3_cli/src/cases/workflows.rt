@@ -1,7 +1,7 @@
 //! Workflows, queues and refusals: scripts over a store that isn't there yet, each with all of its replies.
 
-use super::bank::BANK;
-use super::{NONE, RUN, left_by};
+use super::{answered, has_told};
+use r3_gen::BANK;
 use std::test::Fail;
 
 // A transfer in two steps, the second outside; what follows it; and two forks of it.
@@ -219,6 +219,7 @@ const CHILD: (&str, &str) = (
 {"turn":"p1"}
 {"turn":"p1"}
 {"status":"p1"}
+{"status":"p1-0"}
 "#,
     r#"{"entry":2}
 {"entry":3,"id":"p1"}
@@ -230,6 +231,103 @@ const CHILD: (&str, &str) = (
 {"entry":7}
 {"entry":8}
 {"args":["a","b",3],"attempts":0,"fn":"both","id":"p1","outcome":{"value":3},"parent":null,"queue":null,"started":3,"status":"SUCCESS"}
+{"args":["a","b",3],"attempts":0,"fn":"send","id":"p1-0","outcome":{"value":3},"parent":"p1","queue":null,"started":4,"status":"SUCCESS"}
+"#,
+);
+
+// A child whose ID stands there already: under another function it is a failure, and else it is taken as it is.
+const ADOPTED: (&str, &str) = (
+    r#"{"start":"p1-0","fn":"odd","args":[1]}
+{"start":"p1","fn":"both","args":["a","b",3]}
+{"turn":"p1"}
+{"turn":"p1"}
+{"status":"p1"}
+{"turn":"p1-0"}
+{"load":"acct","rows":{"a":10,"b":5,"c":0}}
+{"start":"p2-0","fn":"send","args":["a","c",1]}
+{"start":"p2","fn":"both","args":["a","b",3]}
+{"turn":"p2"}
+{"turn":"p2"}
+{"drain":100}
+{"status":"p2"}
+{"status":"p2-0"}
+{"get":"acct","key":"a"}
+"#,
+    r#"{"entry":2,"id":"p1-0"}
+{"entry":3,"id":"p1"}
+{"entry":4}
+{"entry":5}
+{"args":["a","b",3],"attempts":0,"fn":"both","id":"p1","outcome":{"failure":"conflict"},"parent":null,"queue":null,"started":3,"status":"ERROR"}
+{"entry":6}
+{"entry":7}
+{"entry":8,"id":"p2-0"}
+{"entry":9,"id":"p2"}
+{"entry":10}
+{"waiting":"p2-0"}
+{"drain":"idle","turns":12}
+{"args":["a","b",3],"attempts":0,"fn":"both","id":"p2","outcome":{"value":1},"parent":null,"queue":null,"started":9,"status":"SUCCESS"}
+{"args":["a","c",1],"attempts":0,"fn":"send","id":"p2-0","outcome":{"value":1},"parent":null,"queue":null,"started":8,"status":"SUCCESS"}
+{"value":9}
+"#,
+);
+
+// What an await gives where there is no such workflow, where it has failed, and where it was cancelled.
+const AWAITS: (&str, &str) = (
+    r#"{"start":"w1","fn":"wait","args":["none"]}
+{"turn":"w1"}
+{"turn":"w1"}
+{"status":"w1"}
+{"start":"w2","fn":"wait","args":["w1"]}
+{"turn":"w2"}
+{"turn":"w2"}
+{"status":"w2"}
+{"start":"w3","fn":"wait","args":["w3"]}
+{"cancel":"w3"}
+{"start":"w4","fn":"wait","args":["w3"]}
+{"turn":"w4"}
+{"turn":"w4"}
+{"status":"w4"}
+"#,
+    r#"{"entry":2,"id":"w1"}
+{"entry":3}
+{"entry":4}
+{"args":["none"],"attempts":0,"fn":"wait","id":"w1","outcome":{"failure":"unknown_id"},"parent":null,"queue":null,"started":2,"status":"ERROR"}
+{"entry":5,"id":"w2"}
+{"entry":6}
+{"entry":7}
+{"args":["w1"],"attempts":0,"fn":"wait","id":"w2","outcome":{"failure":"unknown_id"},"parent":null,"queue":null,"started":5,"status":"ERROR"}
+{"entry":8,"id":"w3"}
+{"entry":9}
+{"entry":10,"id":"w4"}
+{"entry":11}
+{"entry":12}
+{"args":["w3"],"attempts":0,"fn":"wait","id":"w4","outcome":{"failure":"cancelled"},"parent":null,"queue":null,"started":10,"status":"ERROR"}
+"#,
+);
+
+// A transaction that fails is recorded, writes nothing and conflicts with nothing.
+const SHORT: (&str, &str) = (
+    r#"{"load":"acct","rows":{"a":10,"b":5,"c":0}}
+{"start":"d1","fn":"draw","args":["a","b",16]}
+{"start":"s1","fn":"send","args":["a","b",1]}
+{"turn":"d1"}
+{"turn":"s1"}
+{"turn":"s1"}
+{"turn":"d1"}
+{"turn":"d1"}
+{"status":"d1"}
+{"get":"acct","key":"a"}
+"#,
+    r#"{"entry":2}
+{"entry":3,"id":"d1"}
+{"entry":4,"id":"s1"}
+{"began":4}
+{"began":4}
+{"entry":5}
+{"entry":6}
+{"entry":7}
+{"args":["a","b",16],"attempts":0,"fn":"draw","id":"d1","outcome":{"failure":"short"},"parent":null,"queue":null,"started":3,"status":"ERROR"}
+{"value":9}
 "#,
 );
 
@@ -256,52 +354,24 @@ const CANCELLED: (&str, &str) = (
 "#,
 );
 
-// The ID is the version 5 UUID of the nil namespace and the text `1`; the last line has no newline.
-const NO_ID: (&str, &str) = (
-    r#"{"start":null,"fn":"odd","args":[1]}"#,
-    r#"{"entry":2,"id":"11116e73-1c03-5de6-9130-5f9925ae8ab4"}
-"#,
-);
-
 const SCRIPTS: &[(&str, &str)] = &[
     TRANSFER, CONFLICT, WRITE_SKEW, FILLED, OVERFILLED, FAILURES, QUEUE, WAITS, SPENT, REFUSED,
-    CHILD, CANCELLED, NO_ID,
+    CHILD, ADOPTED, AWAITS, SHORT, CANCELLED,
 ];
 
 #[test]
 fn each_line_has_its_reply(rt: HostRuntime) -> Result<(), Fail> {
     for (script, replies) in SCRIPTS {
-        let left = left_by(
-            rt.alloc(),
-            RUN,
-            b"",
-            BANK.as_bytes(),
-            script.as_bytes(),
-            &NONE,
-        )?;
-        assert_eq!(rt; left.said.as_slice(), replies.as_bytes(), "{script}");
-        assert_eq!(rt; left.status, 0, "{script}");
+        answered(&rt, rt.alloc(), BANK, b"", script.as_bytes(), replies)?;
     }
     Ok(())
 }
 
 #[test]
 fn the_outside_is_asked_once_for_each_step(rt: HostRuntime) -> Result<(), Fail> {
-    let left = left_by(
-        rt.alloc(),
-        RUN,
-        b"",
-        BANK.as_bytes(),
-        TRANSFER.0.as_bytes(),
-        &NONE,
-    )?;
+    let (script, replies) = TRANSFER;
+    let left = answered(&rt, rt.alloc(), BANK, b"", script.as_bytes(), replies)?;
     // Of the first workflow, and of its fork from the step.
-    let ids: [&str; 2] = ["m1", "m2"];
-    assert_eq!(rt; left.asked, ids.len());
-    for (call, id) in left.desk.asked().iter().zip(ids) {
-        assert_eq!(rt; call.id.as_str(), id);
-        assert_eq!(rt; call.n, 1);
-        assert_eq!(rt; call.name.as_str(), "notify");
-    }
+    assert!(rt; has_told(rt.alloc(), &left.desk, &["m1", "m2"])?);
     Ok(())
 }

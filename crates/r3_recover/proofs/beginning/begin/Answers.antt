@@ -1,10 +1,9 @@
-use Rattle.std.proofs.Common.{◌≡◌, Bool, true, Err, ◌<◌, ◌≤◌, ◌^◌, ◌+◌, ◌*◌, ℕ, List, [], ◌∷◌, length, Some, None, inl, inr, refl, sym, ap, ◌∙◌, subst, arith}
+use Rattle.std.proofs.Common.{◌≡◌, Bool, true, Err, ◌≤◌, ℕ, List, [], ◌∷◌, length, Some, None, inr, refl, sym, ap, ◌∙◌, subst}
 use Rattle.std.specs.Prelude.{IsTrue}
 use Rattle.std.specs.Str.{is_utf8}
 use Rattle.r3_entry.specs.declared.entry.Entry.{Entry}
 use Rattle.r3_entry.specs.Bytes.{entry, size}
 use Rattle.r3_entry.specs.Limits.{IsEntry}
-use Rattle.r3_gate.specs.declared.fault.Limit.TheVariants.{Entries, Bytes}
 use Rattle.r3_store.specs.Holds.{Holds, MayFollow}
 use Rattle.r3_recover.proofs.FirstEntry.{first_entry, first-follows, first-limits, first-payload, none-full}
 use Rattle.std.proofs.lemmas.Str.{is_utf8-from_IsUtf8}

@@ -1,4 +1,4 @@
-use Rattle.std.proofs.Common.{◌≡◌, Bool, ◌∷◌, [], sym, subst, refl}
+use Rattle.std.proofs.Common.{Bool, ◌∷◌, [], sym, subst, refl}
 use Rattle.std.specs.Prelude.{IsTrue}
 use Rattle.std.proofs.lemmas.Str.{is_utf8-from_IsUtf8}
 use Rattle.r3_recover.proofs.FirstEntry.{first_entry, first-limits, first-payload, first-room}

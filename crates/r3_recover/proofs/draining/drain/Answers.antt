@@ -1,4 +1,4 @@
-use Rattle.std.proofs.Common.{ℕ, ◌*◌, ◌-◌, Ok, false, List, ◌∙◌, refl, sym, subst, ap, arith}
+use Rattle.std.proofs.Common.{◌*◌, ◌-◌, Ok, false, List, ◌∙◌, refl, sym, subst, ap, arith}
 use Rattle.r3_model.specs.Functions.{language_of}
 use Rattle.r3_model.specs.Language.{Text}
 use Rattle.r3_recover.specs.Drained.{EndsEarly}

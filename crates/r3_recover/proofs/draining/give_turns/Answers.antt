@@ -1,4 +1,4 @@
-use Rattle.std.proofs.Common.{ℕ, ◌*◌, Bool, false, [], ◌∙◌, refl, subst, arith}
+use Rattle.std.proofs.Common.{◌*◌, Bool, false, [], ◌∙◌, refl, subst, arith}
 use Rattle.r3_model.specs.Functions.{language_of}
 use Rattle.r3_exec.proofs.Syncs.{no_more}
 use Rattle.r3_recover.specs.Rounds.{Point, Queues, Turns}

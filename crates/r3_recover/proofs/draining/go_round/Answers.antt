@@ -1,4 +1,4 @@
-use Rattle.std.proofs.Common.{ℕ, ◌*◌, ◌-◌, List, refl, sym, subst, arith}
+use Rattle.std.proofs.Common.{◌*◌, ◌-◌, List, refl, sym, subst, arith}
 use Rattle.r3_model.specs.Functions.{language_of}
 use Rattle.r3_model.specs.Language.{Text}
 use Rattle.r3_exec.specs.Runs.{language}

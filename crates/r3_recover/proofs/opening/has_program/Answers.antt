@@ -1,9 +1,8 @@
-use Rattle.std.proofs.Common.{◌≡◌, ◌≢◌, ◌⊎◌, ⊎_elim, inl, inr, ◌≤◌, ◌<◌, ℕ, List, [], ◌∷◌, Bool, true, length, map, string_bytes, slice_index_or, refl, sym, ap, ◌∙◌, arith}
+use Rattle.std.proofs.Common.{◌≡◌, ◌⊎◌, ⊎_elim, inr, ◌≤◌, ◌<◌, ℕ, List, [], ◌∷◌, true, length, map, string_bytes, slice_index_or, sym, ap, ◌∙◌, arith}
 use Rattle.std.specs.Prelude.{String}
 use Rattle.std.specs.declared.alloc.Global.{Global}
 use Rattle.std.proofs.lemmas.Slice.Eq.{bytes_eq-Decides}
 use Rattle.r3_formed.specs.Answers.{program_texts, text_of}
-use Rattle.r3_recover.specs.Opened.{HasProgram}
 use Rattle.r3_recover.proofs.opening.has_program.Goals as goal
 
 -- the only text of a list of one

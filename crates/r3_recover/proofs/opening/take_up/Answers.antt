@@ -1,8 +1,7 @@
-use Rattle.std.proofs.Common.{◌≡◌, ◌≢◌, ◌≤◌, ℕ, List, [], ◌∷◌, true, inl, length, refl, sym, ap, ◌∙◌, subst, arith}
+use Rattle.std.proofs.Common.{◌≡◌, ◌≢◌, ℕ, List, [], ◌∷◌, true, inl, length, refl, sym, ap, ◌∙◌, subst, arith}
 use Rattle.r3_entry.specs.declared.entry.Entry.{Entry}
 use Rattle.r3_entry.specs.Image.{IsHistoryOf}
 use Rattle.r3_exec.proofs.Syncs.{no_more}
-use Rattle.r3_recover.specs.Opened.{HasProgram}
 use Rattle.r3_recover.proofs.opening.take_up.Goals as goal
 
 none-of : (h : List Entry) → 0 ≡ length h → h ≡ []

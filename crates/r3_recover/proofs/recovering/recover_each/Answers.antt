@@ -1,5 +1,4 @@
-use Rattle.std.proofs.Common.{◌≡◌, List, [], ◌∷◌, ◌+◌, drop, refl, sym, subst, ap, ◌∙◌, arith}
-use Rattle.r3_entry.specs.declared.entry.Entry.{Entry}
+use Rattle.std.proofs.Common.{◌+◌, drop, refl, ◌∙◌, arith}
 use Rattle.r3_recover.specs.Recovering.{Recovers}
 use Rattle.r3_recover.proofs.Taking.{with-first, with-none}
 use Rattle.r3_recover.proofs.recovering.recover_each.Goals as goal

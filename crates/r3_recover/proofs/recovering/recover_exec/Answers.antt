@@ -1,4 +1,4 @@
-use Rattle.std.proofs.Common.{◌≡◌, ◌∙◌}
+use Rattle.std.proofs.Common.{◌∙◌}
 use Rattle.r3_model.specs.Run.{restarted}
 use Rattle.r3_recover.proofs.Openings.{has-recovered, recovers-first}
 use Rattle.r3_recover.proofs.recovering.recover_exec.Goals as goal

@@ -1,4 +1,4 @@
-use Rattle.std.proofs.Common.{◌≡◌, subst}
+use Rattle.std.proofs.Common.{subst}
 use Rattle.sys_flow.specs.declared.command.Command.{Command}
 use Rattle.r3_model.specs.Event.{Run}
 use Rattle.r3_exec.specs.Does.{Does}
