@@ -189,8 +189,13 @@ module _ {D : Type 0} (image : D → Option Text) (may_leave : D → Text → Ty
       → EndsAtOnce image may_leave moment reach said asked mid now halt answer → Old (Some halt) [] → GoesAs New answer
   goes-as Old New halt same more closes old = ⊎_elim
       (λ silent. (Some halt, [], ⊎_elim (λ own. inl (own.1, sym own.0)) (λ three. inr (three.0, inr (three.1, refl))) silent.0, same silent.1 old))
-      (λ last. (Some halt, last.line, ⊎_elim (λ own. inl (own.0, whole-line halt last.line last.rest last.cut own.1))
-      (λ five. inr (has-line halt last.spoken, inl (five, last.rest, last.cut))) last.answers, more last old)) closes
+      (λ last. (
+        Some halt,
+        last.line,
+        ⊎_elim (λ own. inl (own.0, whole-line halt last.line last.rest last.cut own.1))
+            (λ five. inr (has-line halt last.spoken, inl (five, last.rest, last.cut))) last.answers,
+        more last old,
+      )) closes
 
   pub run-goes : (text : Text) (h : List Entry) (script : Text) (halt : Halt) → EndsAtOnce image may_leave moment reach said asked mid now halt answer
       → RunGoes image may_leave moment reach said asked from mid text h script (Some halt) []

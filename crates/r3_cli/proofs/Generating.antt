@@ -18,7 +18,7 @@ use Rattle.r3_recover.specs.Opened.{HasProgram, HasCause, IsHalted}
 use Rattle.r3_recover.specs.declared.ends.StartFault.{StartFault}
 use Rattle.r3_recover.specs.declared.ends.StartFault.TheVariants as starts
 use Rattle.r3_serve.specs.Served.{Quiet, Served}
-use Rattle.r3_gen.specs.Ran.{Ran, StoppedAmong, EndsEarly}
+use Rattle.r3_gen.specs.Ran.{Ran, SummaryFailed, StoppedAmong, EndsEarly}
 use Rattle.r3_gen.specs.declared.fault.GenFault.{GenFault}
 use Rattle.r3_gen.specs.declared.fault.GenFault.TheVariants as gens
 use Rattle.r3_cli.specs.Functions.{IsAccepted}
@@ -122,6 +122,21 @@ module _ {D : Type 0} (size : D → Option ℕ) (image : D → Option Text) (may
 
   abbrev pub DrewAll : (from now : D) → Text → List Entry → ℕ → ℕ → Type 0
   DrewAll from now text h number count = (is : List Item) × IsAccepted text is × Ran image moment reach said asked from now (language_of is) text h (generated number count) count
+
+  abbrev pub DrewInPart : (from now : D) → Text → List Entry → ℕ → ℕ → Type 0
+  DrewInPart from now text h number count = (is : List Item) × IsAccepted text is × SummaryFailed image moment reach said asked from now (language_of is) text h (generated number count) count
+
+  -- the summary failed to be said
+  pub gen-failed : ((c : Text) (a b : List Entry) → IsHistoryOf a c → IsHistoryOf b c → a ≡ b) → (from now : D) (text c : Text) (h : List Entry) (number count : ℕ) (items : List Item) → IsAccepted text items
+      → image from ≡ Some c → IsHistoryOf h c
+      → (k : List Entry) × ForSome (image from) (IsHistoryOf k) × HasProgram k text × SummaryFailed image moment reach said asked from now (language_of items) text k (generated number count) count
+      → DrewInPart from now text h number count
+  gen-failed one from now text c h number count items accepted is history x = (
+    items,
+    accepted,
+    subst (λ (h' : List Entry). SummaryFailed image moment reach said asked from now (language_of items) text h' (generated number count) count)
+        (same-history one (image from) c x.0 h x.1 is history) x.3,
+  )
 
   -- it has ended early
   pub gen-early : Reads → Settles → (from now : D) (exec : Exec) (text : Text) (h k : List Entry) (number count : ℕ) (items : List Item)

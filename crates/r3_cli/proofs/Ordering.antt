@@ -1,9 +1,10 @@
 -- Calls that end before anything is touched.
-use Rattle.std.proofs.Common.{◌≡◌, ◌⊎◌, inl, inr, ⊎_elim, ℕ, List, Option, refl, sym, ap, ◌∙◌, subst, arith}
+use Rattle.std.proofs.Common.{◌≡◌, ◌⊎◌, inl, inr, ⊎_elim, ℕ, List, [], Option, Some, None, refl, sym, ap, ◌∙◌, subst, arith}
 use Rattle.r3_desk.specs.Asked as desk
 use Rattle.r3_desk.specs.Crash.{Reach}
 use Rattle.r3_model.specs.Language.{Text}
-use Rattle.r3_cli.specs.Statuses.{HasLine, status_of}
+use Rattle.r3_cli.specs.Statuses.{GoesAs, HasLine, IsLast, last_line, status_of}
+use Rattle.r3_cli.specs.Going.{FailsToSay}
 use Rattle.r3_cli.specs.Closes.{CallsNeither, EndsAtOnce}
 use Rattle.r3_cli.specs.declared.halt.Halt.{Halt}
 use Rattle.r3_cli.specs.declared.halt.Halt.TheVariants as halts
@@ -51,6 +52,26 @@ say-of (halts.Store x) is = absurd (omega (arith, is))
 say-of halts.Program is = absurd (omega (arith, is))
 say-of halts.LongFile is = absurd (omega (arith, is))
 say-of halts.LongScript is = absurd (omega (arith, is))
+
+no-five-zero : 5 ≡ 0 → ⊥
+no-five-zero is = omega (arith, is)
+
+said-whole : (Goes : Option Halt → Text → Type 0) (halt : Halt) (line : Text) → halt ≡ halts.Say → line ≡ last_line halt → Goes (Some halt) line → Goes (Some halts.Say) []
+said-whole Goes halt line say all g =
+    let none : line ≡ [] = all ∙ ap last_line say in
+    subst (λ (t : Text). Goes (Some halts.Say) t) none (subst (λ (h : Halt). Goes (Some h) line) say g)
+
+fails-at : (Goes : Option Halt → Text → Type 0) (end : Option Halt) (line : Text) → IsLast end 5 line → Goes end line → FailsToSay Goes
+fails-at Goes None line last g = absurd (no-five-zero last.0)
+fails-at Goes (Some halt) line last g = ⊎_elim
+    (λ own. inl (said-whole Goes halt line (say-of halt own.0) own.1 g))
+    (λ cut. ⊎_elim (λ five. inr (halt, line, five.1, cut.0, five.2, g)) (λ three. absurd (omega (arith, three.0))) cut.1) last
+
+-- status 5 comes where the output has failed
+pub fails-to-say : (Goes : Option Halt → Text → Type 0) (answer : ℕ) → answer ≡ 5 → GoesAs Goes answer → FailsToSay Goes
+fails-to-say Goes answer five goes =
+    let g : GoesAs Goes 5 = subst (λ (n : ℕ). GoesAs Goes n) five goes in
+    fails-at Goes g.0 g.1 g.2 g.3
 
 -- a count of the output that has changed is told
 pub say-tells : (answer then between now : ℕ) (halt : Halt) → Answers answer halt → ((HasLine halt → ⊥) → answer ≡ status_of halt)

@@ -9,7 +9,7 @@ use Rattle.r3_desk.specs.Crash.{Reach}
 use Rattle.r3_entry.specs.Image.{IsHistoryOf}
 use Rattle.r3_store.specs.declared.fault.OpenFault.{OpenFault}
 use Rattle.r3_model.specs.Language.{Language, Text}
-use Rattle.r3_recover.specs.Opened.{HasProgram, HasCause, IsHalted}
+use Rattle.r3_recover.specs.Opened.{HasProgram, HasCause as HasStartCause, IsHalted}
 use Rattle.r3_recover.specs.declared.ends.StartFault.{StartFault}
 use Rattle.r3_recover.specs.declared.ends.StartFault.TheVariants as starts
 use Rattle.r3_cli.specs.declared.functions.FunctionsFault.{FunctionsFault}
@@ -143,9 +143,9 @@ abbrev pub Others-of : Option Text → Text → StartFault → Type 0
 Others-of image text fault = (h : List Entry) → ForSome image (λ i. IsHistoryOf h i → (HasProgram h text → ⊥) → (fault ≡ starts.Other) ⊎ IsHalted fault)
 
 pub no-store : (image : Option Text) (text : Text) (start : StartFault) (fault : OpenFault) → start ≡ starts.Store fault → Opening-of image text start → Others-of image text start
-    → HasCause image text start → (entry : ℕ) → entry ≡ entry_of fault → IsNoStore image entry
+    → HasStartCause image text start → (entry : ℕ) → entry ≡ entry_of fault → IsNoStore image entry
 no-store image text start fault at opens others caused entry is =
-    let cause : HasCause image text (starts.Store fault) = subst (λ (x : StartFault). HasCause image text x) at caused in
+    let cause : HasStartCause image text (starts.Store fault) = subst (λ (x : StartFault). HasStartCause image text x) at caused in
     let halted : IsHalted start → ⊥ = λ h. store-halted fault (subst IsHalted at h) in (
       λ i there store.
           let p : HasProgram store.0 text → ⊥ = λ has. halted (opens store.0 i there store.1 has) in

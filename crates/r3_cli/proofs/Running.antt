@@ -15,6 +15,7 @@ use Rattle.r3_model.specs.Script.{Line, Drain}
 use Rattle.r3_exec.specs.declared.exec.Exec.{Exec}
 use Rattle.r3_recover.specs.Opened.{HasProgram}
 use Rattle.r3_serve.specs.Served.{Loud, Served, Stopped}
+use Rattle.r3_serve.specs.Failed.{ReplyFailed, ReplyFailedIn}
 use Rattle.r3_serve.specs.Scripted.{StoppedIn, script_lines, ended_script_lines}
 use Rattle.r3_cli.specs.declared.halt.Halt.TheVariants as halts
 use Rattle.r3_cli.specs.Functions.{IsAccepted}
@@ -54,6 +55,13 @@ module _ {D : Type 0} (image : D → Option Text) (may_leave : D → Text → Ty
 
   abbrev pub Part : List Line → Text → List Entry → Type 0
   Part lines text h = (is : List Item) × IsAccepted text is × Within image may_leave moment reach said asked from now (language_of is) text h lines
+
+  -- up to the reply that failed to be said; the same of a drain
+  abbrev pub Failed : Text → Text → List Entry → Type 0
+  Failed script text h = (is : List Item) × IsAccepted text is × ReplyFailedIn image may_leave moment reach said asked from now (language_of is) text h [] script
+
+  abbrev pub DrainFailed : Line → Text → List Entry → Type 0
+  DrainFailed line text h = (is : List Item) × IsAccepted text is × ReplyFailed image may_leave moment reach said asked from now (language_of is) text h [] line
 
   abbrev pub CutOff : Text → Text → List Entry → Type 0
   CutOff script text h = (is : List Item) × IsAccepted text is × ((2 ^ 26 < length script)
@@ -107,6 +115,14 @@ module _ {D : Type 0} (size : D → Option ℕ) (image : D → Option Text) (may
   goes-first result fault is line stopped =
       let at : Stopped image moment reach said asked from now (language_of items) Loud text h [] line = of-err result fault is stopped in
       (items, opened.file.1, within-first size image may_leave moment reach said asked from now items text h line at)
+
+  pub goes-failed : (script : Text) → ReplyFailedIn image may_leave moment reach said asked from now (language_of items) text h [] script
+      → Failed image may_leave moment reach said asked from now script text h
+  goes-failed script failed = (items, opened.file.1, failed)
+
+  pub drain-failed : (line : Line) → ReplyFailed image may_leave moment reach said asked from now (language_of items) text h [] line
+      → DrainFailed image may_leave moment reach said asked from now line text h
+  drain-failed line failed = (items, opened.file.1, failed)
 
   pub goes-cut : (script : Text) → (2 ^ 26 < length script) × Went (ended_script_lines (take (2 ^ 26) script))
       → CutOff image may_leave moment reach said asked from now script text h

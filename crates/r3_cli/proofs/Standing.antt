@@ -218,7 +218,7 @@ module _ (form : Form) (text image script : Text) where
   }
 
   failed : (Disk Say Input : Type 0) (answer : ℕ) → HasFailed Disk Say Input answer → IsStatusOf form text image script Disk Say Input answer
-  failed D S I answer f = record { only = inl f; exactly = λ other there. inl f; }
+  failed D S I answer f = record { only = inl f; exactly = λ other there. inl f }
 
   pub told-done : (Disk Say Input : Type 0) → HasCause form text (Some image) (Some script) None → IsStatusOf form text image script Disk Say Input 0
   told-done D S I c = status-of D S I 0 None refl (stood-none c)

@@ -18,9 +18,11 @@ use Rattle.r3_session.specs.Begun.{StopsOpening}
 use Rattle.r3_serve.specs.Held.{LeavesHeld, asked_marks}
 use Rattle.r3_serve.specs.Served.{Loud, Quiet, Calls, Stopped}
 use Rattle.r3_serve.specs.Scripted.{script_lines, ended_script_lines}
-use Rattle.r3_gen.specs.Ran.{Ran, HasSaid}
+use Rattle.r3_serve.specs.Failed.{ReplyFailed, ReplyFailedIn}
+use Rattle.r3_gen.specs.Ran.{Ran, HasSaid, SummaryFailed}
 use Rattle.r3_cli.specs.Functions.{IsAccepted}
 use Rattle.r3_cli.specs.Refusals.{IsFileRefusal}
+use Rattle.r3_cli.specs.Statuses.{HasLine, last_line}
 use Rattle.r3_cli.specs.Answered.{Says, Answered, LeavesPrefix}
 use Rattle.r3_cli.specs.declared.halt.Halt.{Halt}
 use Rattle.r3_cli.specs.declared.halt.Halt.TheVariants as halts
@@ -88,7 +90,8 @@ module _ {D : Type 0} (told_image : D → Option Text) (may_leave : D → Text �
       ⊎ (OpensEarly text h ⊎ AtWork text Work (Some halts.Memory) line)
   Goes text h Work end line = AtWork text Work end line
 
-  -- Of a script: all of its lines; those that end within the limit, where it is too long; else those before some line.
+  -- Of a script: all of its lines; those that end within the limit, where it is too long; or up to the reply that failed to
+  -- be said; else those before some line.
   abbrev pub OfScript : Text → List Entry → Text → Language → Option Halt → Text → Type 0
   OfScript text h script P None line =
       Answered told_image may_leave moment reach said asked from now P text h (script_lines script) line
@@ -98,7 +101,8 @@ module _ {D : Type 0} (told_image : D → Option Text) (may_leave : D → Text �
   OfScript text h script P (Some halts.Script) line = Within P text h (script_lines script)
   OfScript text h script P (Some halts.Disk) line = Within P text h (script_lines script)
   OfScript text h script P (Some halts.Memory) line = Within P text h (script_lines script)
-  OfScript text h script P (Some halts.Say) line = Within P text h (script_lines script)
+  OfScript text h script P (Some halts.Say) line =
+      ReplyFailedIn told_image may_leave moment reach said asked from now P text h [] script
   OfScript text h script P end line = ⊥
 
   abbrev pub RunGoes : Text → List Entry → Text → Option Halt → Text → Type 0
@@ -110,7 +114,8 @@ module _ {D : Type 0} (told_image : D → Option Text) (may_leave : D → Text �
       Answered told_image may_leave moment reach said asked from now P text h (Drain turns ∷ []) line
   OfDrain text h turns P (Some halts.Disk) line = Within P text h (Drain turns ∷ [])
   OfDrain text h turns P (Some halts.Memory) line = Within P text h (Drain turns ∷ [])
-  OfDrain text h turns P (Some halts.Say) line = Within P text h (Drain turns ∷ [])
+  OfDrain text h turns P (Some halts.Say) line =
+      ReplyFailed told_image may_leave moment reach said asked from now P text h [] (Drain turns)
   OfDrain text h turns P end line = ⊥
 
   abbrev pub RecoverGoes : Text → List Entry → ℕ → Option Halt → Text → Type 0
@@ -137,8 +142,16 @@ module _ {D : Type 0} (told_image : D → Option Text) (may_leave : D → Text �
       Ran told_image moment reach said asked from now P text h (generated number count) count
   OfGenerated text h number count P (Some halts.Disk) line = Generating P text h number count
   OfGenerated text h number count P (Some halts.Memory) line = Generating P text h number count
-  OfGenerated text h number count P (Some halts.Say) line = Generating P text h number count
+  OfGenerated text h number count P (Some halts.Say) line =
+      SummaryFailed told_image moment reach said asked from now P text h (generated number count) count
   OfGenerated text h number count P end line = ⊥
 
   abbrev pub GenGoes : Text → List Entry → ℕ → ℕ → Option Halt → Text → Type 0
   GenGoes text h number count end line = Goes text h (OfGenerated text h number count) end line
+
+-- The output has failed: at the reply of a line, with each one before said whole and in order, and nothing else; or at
+-- the last line, of which this first part was said.
+abbrev pub FailsToSay : (Option Halt → Text → Type 0) → Type 0
+FailsToSay Goes =
+    Goes (Some halts.Say) []
+    ⊎ ((halt : Halt) × (part : Text) × (rest : Text) × HasLine halt × (part ++ rest ≡ last_line halt) × Goes (Some halt) part)

@@ -15,7 +15,7 @@ ghost use Rattle.r3_cli.specs.Statuses.{GoesAs, HasLine, IsFault, IsStatus, stat
 ghost use Rattle.r3_cli.specs.Refusals.{EndsAtFile, IsFunctionFile, IsNoStore, IsOthers};
 ghost use Rattle.r3_cli.specs.Causes.{HasScript, HasStore, IsReady, IsStatusOf, IsTaken};
 ghost use Rattle.r3_cli.specs.Closes.{CallsNeither, EndsAtOnce, EndsAtStore};
-ghost use Rattle.r3_cli.specs.Going.{GenGoes, RecoverGoes, RunGoes};
+ghost use Rattle.r3_cli.specs.Going.{FailsToSay, GenGoes, RecoverGoes, RunGoes};
 ghost use Rattle.r3_cli.specs.Ends.{CheckComes, EndsAs, GenComes, RecoverComes, RunComes};
 ghost use Rattle.r3_cli.specs.declared.functions.FunctionsFault.{FunctionsFault};
 ghost use Rattle.r3_cli.specs.declared.halt.Halt.{Halt as Halted};
@@ -112,6 +112,22 @@ pub fn top<D: Desk, S: Source, F: Shelf>(
         asked_by (map string_bytes words.now) ≡ Some (gen_form number count) →
         D.image desk.old ≡ Some image → IsHistoryOf h image → HasProgram h BANK.now →
         GoesAs (GenGoes D.image D.may_leave D.moment D.reach D.said D.asked desk.old desk.new BANK.now h number count) result }
+
+    // Where the output has failed, all that was to be said before was said, and nothing else.
+    ensures run_say_whole { (functions text image lines : Text) (h : List Entry) →
+        asked_by (map string_bytes words.now) ≡ Some (run_form functions) →
+        F.text_of shelf.old functions ≡ Some text → D.image desk.old ≡ Some image → S.left script.old ≡ Some lines →
+        IsHistoryOf h image → HasProgram h text → result ≡ 5 →
+        FailsToSay (RunGoes D.image D.may_leave D.moment D.reach D.said D.asked desk.old desk.new text h lines) }
+    ensures recover_say_whole { (functions text image : Text) (turns : ℕ) (h : List Entry) →
+        asked_by (map string_bytes words.now) ≡ Some (recover_form functions turns) →
+        F.text_of shelf.old functions ≡ Some text → D.image desk.old ≡ Some image →
+        IsHistoryOf h image → HasProgram h text → result ≡ 5 →
+        FailsToSay (RecoverGoes D.image D.may_leave D.moment D.reach D.said D.asked desk.old desk.new text h turns) }
+    ensures gen_say_whole { (number count : ℕ) (image : Text) (h : List Entry) →
+        asked_by (map string_bytes words.now) ≡ Some (gen_form number count) →
+        D.image desk.old ≡ Some image → IsHistoryOf h image → HasProgram h BANK.now → result ≡ 5 →
+        FailsToSay (GenGoes D.image D.may_leave D.moment D.reach D.said D.asked desk.old desk.new BANK.now h number count) }
 
     // The words come first, then the function file, then the store, and then the script: what is refused at one of
     // them leaves all that comes behind it alone.

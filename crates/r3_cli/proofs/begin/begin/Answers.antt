@@ -43,9 +43,11 @@ pub returns-in-Err-accept-clause-file_first : goal.returns-in-Err-accept-clause-
 returns-in-Err-accept-clause-file_first g c = λ text there none.
     let same = c.in-Ok.ensures.text text there in
     let items : c.deref.result.now ≡ text = c.deref.ensures.value ∙ same in
-    let short : length text ≤ 2 ^ 20 = subst (λ (x : Text). length x ≤ 2 ^ 20) same c.in-Ok.ensures.short in
-    (refl, at-accept text c.in-Err-accept.halt short c.in-Err-accept.ensures.halts
-    (λ fault at. subst (λ (x : Text). IsRefused x fault) items (c.in-Err-accept.ensures.refused fault at)))
+    let short : length text ≤ 2 ^ 20 = subst (λ (x : Text). length x ≤ 2 ^ 20) same c.in-Ok.ensures.short in (
+      refl,
+      at-accept text c.in-Err-accept.halt short c.in-Err-accept.ensures.halts
+          (λ fault at. subst (λ (x : Text). IsRefused x fault) items (c.in-Err-accept.ensures.refused fault at)),
+    )
 
 pub returns-in-Err-accept-clause-goes : goal.returns-in-Err-accept-clause-goes
 returns-in-Err-accept-clause-goes g c = λ text image h there is history has.
@@ -69,8 +71,11 @@ returns-in_default-clause-goes g c = λ text image h there is history has.
 
 pub returns-in_default-clause-file_first : goal.returns-in_default-clause-file_first
 returns-in_default-clause-file_first g c = λ text there none.
-    absurd (none (c.in-Ok-accept.program, is-file text c.in-Ok.text.items c.deref.result.now c.in-Ok-accept.program
-    (c.in-Ok.ensures.text text there) c.in-Ok.ensures.short c.deref.ensures.value c.in-Ok-accept.ensures.accepted))
+    absurd (none (
+      c.in-Ok-accept.program,
+      is-file text c.in-Ok.text.items c.deref.result.now c.in-Ok-accept.program
+          (c.in-Ok.ensures.text text there) c.in-Ok.ensures.short c.deref.ensures.value c.in-Ok-accept.ensures.accepted,
+    ))
 
 -- ---- the store is opened
 
@@ -99,8 +104,11 @@ returns-in-Ok-open-clause-faultless g c = λ text there. no-fault-in text c.dere
 
 pub returns-in-Ok-open-clause-file_first : goal.returns-in-Ok-open-clause-file_first
 returns-in-Ok-open-clause-file_first g c = λ text there none.
-    absurd (none (c.in-Ok-accept.program, is-file text c.in-Ok.text.items c.deref.result.now c.in-Ok-accept.program
-    (c.in-Ok.ensures.text text there) c.in-Ok.ensures.short c.deref.ensures.value c.in-Ok-accept.ensures.accepted))
+    absurd (none (
+      c.in-Ok-accept.program,
+      is-file text c.in-Ok.text.items c.deref.result.now c.in-Ok-accept.program
+          (c.in-Ok.ensures.text text there) c.in-Ok.ensures.short c.deref.ensures.value c.in-Ok-accept.ensures.accepted,
+    ))
 
 -- ---- it is no store
 
@@ -124,8 +132,7 @@ pub returns-in-Err-Store-clause-causes : goal.returns-in-Err-Store-clause-causes
 returns-in-Err-Store-clause-causes g c = λ text there.
     let same = c.in-Ok.ensures.text text there in
     let file : IsFile text c.in-Ok-accept.program = is-file text c.in-Ok.text.items c.deref.result.now c.in-Ok-accept.program
-    same c.in-Ok.ensures.short c.deref.ensures.value c.in-Ok-accept.ensures.accepted in
-    (
+    same c.in-Ok.ensures.short c.deref.ensures.value c.in-Ok-accept.ensures.accepted in (
       ((c.in-Ok-accept.program, file), no-fault-in text c.deref.result.now (c.deref.ensures.value ∙ same) c.in-Ok-accept.ensures.faultless),
       no-store (g.D.Desk.image c.args.desk.now) c.as_str.result.now c.in-Err-Store.field-0 c.in-Err-Store.fault c.in-Err-Store.field-0-is
           c.in-Err-Store.ensures.opens c.in-Err-Store.ensures.other c.in-Err-Store.ensures.causes c.entry_of.result c.entry_of.ensures,
@@ -133,8 +140,11 @@ returns-in-Err-Store-clause-causes g c = λ text there.
 
 pub returns-in-Err-Store-clause-file_first : goal.returns-in-Err-Store-clause-file_first
 returns-in-Err-Store-clause-file_first g c = λ text there none.
-    absurd (none (c.in-Ok-accept.program, is-file text c.in-Ok.text.items c.deref.result.now c.in-Ok-accept.program
-    (c.in-Ok.ensures.text text there) c.in-Ok.ensures.short c.deref.ensures.value c.in-Ok-accept.ensures.accepted))
+    absurd (none (
+      c.in-Ok-accept.program,
+      is-file text c.in-Ok.text.items c.deref.result.now c.in-Ok-accept.program
+          (c.in-Ok.ensures.text text there) c.in-Ok.ensures.short c.deref.ensures.value c.in-Ok-accept.ensures.accepted,
+    ))
 
 pub returns-in-Err-Store-clause-goes : goal.returns-in-Err-Store-clause-goes
 returns-in-Err-Store-clause-goes g c = λ text image h there is history has.
@@ -151,8 +161,7 @@ returns-in-Err-Other-clause-causes g c = λ text there.
     let string : string_bytes c.in-Ok-from_utf8.text ≡ c.in-Ok.text.items = search rules in
     let bytes : c.as_str.result.now ≡ text = c.as_str.ensures.value ∙ string ∙ same in
     let file : IsFile text c.in-Ok-accept.program = is-file text c.in-Ok.text.items c.deref.result.now c.in-Ok-accept.program
-    same c.in-Ok.ensures.short c.deref.ensures.value c.in-Ok-accept.ensures.accepted in
-    (
+    same c.in-Ok.ensures.short c.deref.ensures.value c.in-Ok-accept.ensures.accepted in (
       ((c.in-Ok-accept.program, file), no-fault-in text c.deref.result.now (c.deref.ensures.value ∙ same) c.in-Ok-accept.ensures.faultless),
       subst (λ (x : Text). IsOthers x (g.D.Desk.image c.args.desk.now)) bytes
           (gen-not-this (g.D.Desk.image c.args.desk.now) c.as_str.result.now c.in-Err-Other.field-0 c.in-Err-Other.field-0-is c.in-Err-Other.ensures.opens c.in-Err-Other.ensures.causes),
@@ -160,15 +169,24 @@ returns-in-Err-Other-clause-causes g c = λ text there.
 
 pub returns-in-Err-Other-clause-file_first : goal.returns-in-Err-Other-clause-file_first
 returns-in-Err-Other-clause-file_first g c = λ text there none.
-    absurd (none (c.in-Ok-accept.program, is-file text c.in-Ok.text.items c.deref.result.now c.in-Ok-accept.program
-    (c.in-Ok.ensures.text text there) c.in-Ok.ensures.short c.deref.ensures.value c.in-Ok-accept.ensures.accepted))
+    absurd (none (
+      c.in-Ok-accept.program,
+      is-file text c.in-Ok.text.items c.deref.result.now c.in-Ok-accept.program
+          (c.in-Ok.ensures.text text there) c.in-Ok.ensures.short c.deref.ensures.value c.in-Ok-accept.ensures.accepted,
+    ))
 
 pub returns-in-Err-Disk-clause-file_first : goal.returns-in-Err-Disk-clause-file_first
 returns-in-Err-Disk-clause-file_first g c = λ text there none.
-    absurd (none (c.in-Ok-accept.program, is-file text c.in-Ok.text.items c.deref.result.now c.in-Ok-accept.program
-    (c.in-Ok.ensures.text text there) c.in-Ok.ensures.short c.deref.ensures.value c.in-Ok-accept.ensures.accepted))
+    absurd (none (
+      c.in-Ok-accept.program,
+      is-file text c.in-Ok.text.items c.deref.result.now c.in-Ok-accept.program
+          (c.in-Ok.ensures.text text there) c.in-Ok.ensures.short c.deref.ensures.value c.in-Ok-accept.ensures.accepted,
+    ))
 
 pub returns-in-Err-Memory-clause-file_first : goal.returns-in-Err-Memory-clause-file_first
 returns-in-Err-Memory-clause-file_first g c = λ text there none.
-    absurd (none (c.in-Ok-accept.program, is-file text c.in-Ok.text.items c.deref.result.now c.in-Ok-accept.program
-    (c.in-Ok.ensures.text text there) c.in-Ok.ensures.short c.deref.ensures.value c.in-Ok-accept.ensures.accepted))
+    absurd (none (
+      c.in-Ok-accept.program,
+      is-file text c.in-Ok.text.items c.deref.result.now c.in-Ok-accept.program
+          (c.in-Ok.ensures.text text there) c.in-Ok.ensures.short c.deref.ensures.value c.in-Ok-accept.ensures.accepted,
+    ))

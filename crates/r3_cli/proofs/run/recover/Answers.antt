@@ -1,4 +1,4 @@
-use Rattle.std.proofs.Common.{inr, [], ◌∷◌, None, subst}
+use Rattle.std.proofs.Common.{rules, inr, [], ◌∷◌, None, subst}
 use Rattle.r3_words.specs.Forms.{recover}
 use Rattle.r3_model.specs.Language.{Text}
 use Rattle.r3_model.specs.Script.{Drain}
@@ -6,7 +6,7 @@ use Rattle.r3_cli.specs.Ends.{RecoverComes}
 use Rattle.r3_cli.specs.Going.{OfDrain}
 use Rattle.r3_cli.proofs.Refusing.{begun-ready, cause-of, ends-early, goes-more}
 use Rattle.r3_cli.proofs.Working.{same-history}
-use Rattle.r3_cli.proofs.Running.{carry, opened-file, opened-begun, drained, goes-all, goes-first, Whole, Part}
+use Rattle.r3_cli.proofs.Running.{carry, opened-file, opened-begun, drained, goes-all, goes-first, drain-failed, Whole, Part, DrainFailed}
 use Rattle.r3_cli.proofs.run.recover.Goals as goal
 
 -- ---- nothing was opened
@@ -78,10 +78,11 @@ returns-in-Err-Say-clause-store_first g c = λ text image there is none.
 
 pub returns-in-Ok-end-clause-causes : goal.returns-in-Ok-end-clause-causes
 returns-in-Ok-end-clause-causes g c = λ text left there.
-    let b = c.in-Ok.ensures.begins in
-    ((opened-file text b.0 (g.D.Desk.image c.args.desk.now) c.in-Ok.session.exec.program b.1 (b.2 text there) b.3, c.in-Ok.ensures.faultless text there),
-    opened-begun text b.0 (g.D.Desk.image c.args.desk.now) c.in-Ok.session.exec.program b.1 (b.2 text there) b.3,
-    tt)
+    let b = c.in-Ok.ensures.begins in (
+      (opened-file text b.0 (g.D.Desk.image c.args.desk.now) c.in-Ok.session.exec.program b.1 (b.2 text there) b.3, c.in-Ok.ensures.faultless text there),
+      opened-begun text b.0 (g.D.Desk.image c.args.desk.now) c.in-Ok.session.exec.program b.1 (b.2 text there) b.3,
+      tt,
+    )
 
 -- ---- what it has come to
 
@@ -126,8 +127,8 @@ returns-in-Err-Memory-clause-goes g c = λ text image h there is history has.
 pub returns-in-Err-Say-clause-goes : goal.returns-in-Err-Say-clause-goes
 returns-in-Err-Say-clause-goes g c = λ text image h there is history has.
     let b = c.in-Ok.ensures.begins in
-    carry (Part g.D.Desk.image g.D.Desk.may_leave g.D.Desk.moment g.D.Desk.reach g.D.Desk.said g.D.Desk.asked c.args.desk.now c.serve-end.new.desk (Drain c.args.turns ∷ [])) text b.0 h b.1 (b.2 text there)
+    carry (DrainFailed g.D.Desk.image g.D.Desk.may_leave g.D.Desk.moment g.D.Desk.reach g.D.Desk.said g.D.Desk.asked c.args.desk.now c.serve-end.new.desk (Drain c.args.turns)) text b.0 h b.1 (b.2 text there)
     (same-history c.one_history.ensures (g.D.Desk.image c.args.desk.now) image b.1 h b.3.history is history)
-    (goes-first g.D.Desk.size g.D.Desk.image g.D.Desk.may_leave g.D.Desk.moment g.D.Desk.reach g.D.Desk.said g.D.Desk.asked c.reads_as_settled.ensures.read c.reads_as_settled.ensures.crash
+    (drain-failed g.D.Desk.size g.D.Desk.image g.D.Desk.may_leave g.D.Desk.moment g.D.Desk.reach g.D.Desk.said g.D.Desk.asked c.reads_as_settled.ensures.read c.reads_as_settled.ensures.crash
     c.args.desk.now c.serve-end.new.desk c.serve-end.new.session.exec c.in-Ok.session.exec.program c.serve-end.ensures.program b.0 b.1 b.3
-    c.serve-end.result c.in-Err-Say.field-0 c.in-Err-Say.is (Drain c.args.turns) (c.serve-end.ensures.stops c.args.desk.now b.0 b.1 [] b.4))
+    (Drain c.args.turns) (c.serve-end.ensures.say_whole c.args.desk.now b.0 b.1 [] b.4 (search rules)))

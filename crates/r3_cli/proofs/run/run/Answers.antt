@@ -10,7 +10,7 @@ use Rattle.r3_cli.specs.declared.halt.Halt.TheVariants as halts
 use Rattle.r3_cli.specs.Going.{OfScript}
 use Rattle.r3_cli.proofs.Refusing.{begun-ready, cause-of, ends-early, goes-more}
 use Rattle.r3_cli.proofs.Working.{same-history}
-use Rattle.r3_cli.proofs.Running.{carry, opened-file, opened-begun, all-lines, too-long, source-failed, goes-all, goes-within, goes-cut, Whole, Part, CutOff}
+use Rattle.r3_cli.proofs.Running.{carry, opened-file, opened-begun, all-lines, too-long, source-failed, goes-all, goes-within, goes-cut, goes-failed, Whole, Part, CutOff, Failed}
 use Rattle.r3_cli.proofs.run.run.Goals as goal
 
 -- ---- nothing was opened
@@ -28,9 +28,11 @@ pub returns-in-Err-clause-file_first : goal.returns-in-Err-clause-file_first
 returns-in-Err-clause-file_first g c = λ text there none. let x = c.in-Err.ensures.file_first text there none in (x.0, refl, x.1)
 
 pub returns-in-Err-clause-store_first : goal.returns-in-Err-clause-store_first
-returns-in-Err-clause-store_first g c = λ text image there is none.
-    (refl, ends-early g.D.Desk.image g.D.Desk.said g.D.Desk.asked c.args.desk.now c.begin.new.desk text c.in-Err.halt
-    (c.in-Err.ensures.refuses text there) c.in-Err.ensures.early c.in-Err.ensures.unsaid)
+returns-in-Err-clause-store_first g c = λ text image there is none. (
+  refl,
+  ends-early g.D.Desk.image g.D.Desk.said g.D.Desk.asked c.args.desk.now c.begin.new.desk text c.in-Err.halt
+      (c.in-Err.ensures.refuses text there) c.in-Err.ensures.early c.in-Err.ensures.unsaid,
+)
 
 -- ---- it was opened: the function file is taken, and the store is this program's
 
@@ -104,18 +106,20 @@ returns-in-Err-TooLong-clause-store_first g c = λ text image there is none.
 
 pub returns-in-Ok-end-clause-causes : goal.returns-in-Ok-end-clause-causes
 returns-in-Ok-end-clause-causes g c = λ text there.
-    let b = c.in-Ok.ensures.begins in
-    ((opened-file text b.0 (g.D.Desk.image c.args.desk.now) c.in-Ok.session.exec.program b.1 (b.2 text there) b.3, c.in-Ok.ensures.faultless text there),
-    opened-begun text b.0 (g.D.Desk.image c.args.desk.now) c.in-Ok.session.exec.program b.1 (b.2 text there) b.3,
-    λ script is. (c.in-Ok-end.ensures.serves c.args.desk.now b.0 b.1 [] script b.4 is).0)
+    let b = c.in-Ok.ensures.begins in (
+      (opened-file text b.0 (g.D.Desk.image c.args.desk.now) c.in-Ok.session.exec.program b.1 (b.2 text there) b.3, c.in-Ok.ensures.faultless text there),
+      opened-begun text b.0 (g.D.Desk.image c.args.desk.now) c.in-Ok.session.exec.program b.1 (b.2 text there) b.3,
+      λ script is. (c.in-Ok-end.ensures.serves c.args.desk.now b.0 b.1 [] script b.4 is).0,
+    )
 
 pub returns-in-Err-TooLong-clause-causes : goal.returns-in-Err-TooLong-clause-causes
 returns-in-Err-TooLong-clause-causes g c = λ text there.
     let at : ◌≡◌ {A = Result (Unit {0}) ScriptStop} c.serve_script-end.result (Err stops.TooLong) = search rules in
-    let b = c.in-Ok.ensures.begins in
-    ((opened-file text b.0 (g.D.Desk.image c.args.desk.now) c.in-Ok.session.exec.program b.1 (b.2 text there) b.3, c.in-Ok.ensures.faultless text there),
-    opened-begun text b.0 (g.D.Desk.image c.args.desk.now) c.in-Ok.session.exec.program b.1 (b.2 text there) b.3,
-    λ script is. (c.serve_script-end.ensures.long c.args.desk.now b.0 b.1 [] script b.4 is at).0)
+    let b = c.in-Ok.ensures.begins in (
+      (opened-file text b.0 (g.D.Desk.image c.args.desk.now) c.in-Ok.session.exec.program b.1 (b.2 text there) b.3, c.in-Ok.ensures.faultless text there),
+      opened-begun text b.0 (g.D.Desk.image c.args.desk.now) c.in-Ok.session.exec.program b.1 (b.2 text there) b.3,
+      λ script is. (c.serve_script-end.ensures.long c.args.desk.now b.0 b.1 [] script b.4 is at).0,
+    )
 
 -- ---- what it has come to
 
@@ -183,11 +187,11 @@ returns-in-Err-Memory-clause-goes g c = λ text image script h there is left his
 pub returns-in-Err-Say-clause-goes : goal.returns-in-Err-Say-clause-goes
 returns-in-Err-Say-clause-goes g c = λ text image script h there is left history has.
     let b = c.in-Ok.ensures.begins in
-    carry (Part g.D.Desk.image g.D.Desk.may_leave g.D.Desk.moment g.D.Desk.reach g.D.Desk.said g.D.Desk.asked c.args.desk.now c.serve_script-end.new.desk (script_lines script)) text b.0 h b.1 (b.2 text there)
+    carry (Failed g.D.Desk.image g.D.Desk.may_leave g.D.Desk.moment g.D.Desk.reach g.D.Desk.said g.D.Desk.asked c.args.desk.now c.serve_script-end.new.desk script) text b.0 h b.1 (b.2 text there)
     (same-history c.one_history.ensures (g.D.Desk.image c.args.desk.now) image b.1 h b.3.history is history)
-    (goes-within g.D.Desk.size g.D.Desk.image g.D.Desk.may_leave g.D.Desk.moment g.D.Desk.reach g.D.Desk.said g.D.Desk.asked c.reads_as_settled.ensures.read c.reads_as_settled.ensures.crash
+    (goes-failed g.D.Desk.size g.D.Desk.image g.D.Desk.may_leave g.D.Desk.moment g.D.Desk.reach g.D.Desk.said g.D.Desk.asked c.reads_as_settled.ensures.read c.reads_as_settled.ensures.crash
     c.args.desk.now c.serve_script-end.new.desk c.serve_script-end.new.session.exec c.in-Ok.session.exec.program c.serve_script-end.ensures.program b.0 b.1 b.3
-    c.serve_script-end.result c.in-Err-Say.field-0 c.in-Err-Say.is script (c.serve_script-end.ensures.stops c.args.desk.now b.0 b.1 [] script b.4 left))
+    script (c.serve_script-end.ensures.say_whole c.args.desk.now b.0 b.1 [] script b.4 left (search rules)))
 
 pub returns-in-Err-Source-clause-goes : goal.returns-in-Err-Source-clause-goes
 returns-in-Err-Source-clause-goes g c = λ text image script h there is left history has.

@@ -5,10 +5,11 @@ use Rattle.r3_cli.specs.declared.halt.Halt.{Halt}
 use Rattle.r3_cli.specs.declared.halt.Halt.TheVariants as halts
 use Rattle.r3_words.specs.Forms.{gen}
 use Rattle.r3_gen.specs.declared.bank.TheConstants.{BANK}
+use Rattle.r3_cli.specs.Going.{RunGoes, RecoverGoes, GenGoes}
 use Rattle.r3_cli.proofs.Closing.{run-ends, recover-ends, gen-ends, run-goes, recover-goes, gen-goes, store-ends}
 use Rattle.r3_cli.proofs.Causing.{functions-cause, store-cause, program-cause, long-cause, disk-cause, input-cause, no-form, err-same, ok-halt, file-text, completes}
 use Rattle.r3_cli.proofs.Standing.{cause-told, told-done, told-halted, known, only-disk, only-files, only-script}
-use Rattle.r3_cli.proofs.Ordering.{own-status, silent-same, at-once, usage-at-once, neither-from, say-tells}
+use Rattle.r3_cli.proofs.Ordering.{own-status, silent-same, at-once, usage-at-once, neither-from, say-tells, fails-to-say}
 use Rattle.r3_cli.proofs.Unread.{not-input, not-long}
 use Rattle.r3_cli.proofs.top.top.Goals as goal
 
@@ -112,8 +113,7 @@ returns-in-Err-clause-functions g c = λ form text at there.
 
 pub returns-in-Err-clause-words_first : goal.returns-in-Err-clause-words_first
 returns-in-Err-clause-words_first g c = λ none.
-    let x = c.in-Err.ensures.words_first none in
-    (
+    let x = c.in-Err.ensures.words_first none in (
       usage-at-once g.D.Desk.image g.D.Desk.may_leave g.D.Desk.moment g.D.Desk.reach g.D.Desk.said g.D.Desk.asked c.args.desk.now c.command.new.desk c.end.new.desk c.end.result c.in-Err.halt x.0
           (⊎_elim (λ u. inl (err-same c.in-Err.halt halts.Usage u)) (λ m. inr (err-same c.in-Err.halt halts.Memory m)) x.3) c.end.ensures.own c.end.ensures.closes,
       neither-from g.D.Desk.size g.D.Desk.syncs g.D.Desk.disk_faults g.D.Desk.ask_faults c.args.desk.now c.command.new.desk c.end.new.desk x.0 c.end.ensures.neither,
@@ -128,8 +128,7 @@ pub returns-in-Err-clause-shelf_first : goal.returns-in-Err-clause-shelf_first
 returns-in-Err-clause-shelf_first g c = λ changed.
     let E : Halt → Result (Unit {0}) Halt = λ (h : Halt). Err h in
     let is : c.in-Err.halt ≡ halts.Files = only-files c.in-Err.halt (λ none. c.in-Err.ensures.files_kept (λ e. none (err-same c.in-Err.halt halts.Files e))) changed in
-    let x = c.in-Err.ensures.files (ap E is) in
-    (
+    let x = c.in-Err.ensures.files (ap E is) in (
       own-status c.end.result c.in-Err.halt halts.Files c.end.ensures.own is (λ l. l),
       silent-same g.D.Desk.image g.D.Desk.may_leave g.D.Desk.moment g.D.Desk.reach g.D.Desk.said g.D.Desk.asked c.args.desk.now c.command.new.desk c.end.new.desk c.end.result c.in-Err.halt halts.Files is (λ l. l) c.end.ensures.closes ∙ x.1,
       x.2,
@@ -140,8 +139,7 @@ returns-in-Ok-clause-file_first g c = λ form text at there none. absurd (c.in-O
 
 pub returns-in-Err-clause-file_first : goal.returns-in-Err-clause-file_first
 returns-in-Err-clause-file_first g c = λ form text at there none.
-    let x = c.in-Err.ensures.file_first form text at there none in
-    (
+    let x = c.in-Err.ensures.file_first form text at there none in (
       c.in-Err.halt,
       x.2,
       at-once g.D.Desk.image g.D.Desk.may_leave g.D.Desk.moment g.D.Desk.reach g.D.Desk.said g.D.Desk.asked c.args.desk.now c.command.new.desk c.end.new.desk c.end.result c.in-Err.halt x.0 c.end.ensures.closes,
@@ -206,3 +204,21 @@ pub returns-in-Err-clause-input : goal.returns-in-Err-clause-input
 returns-in-Err-clause-input g c = λ six.
     let E : Halt → Result (Unit {0}) Halt = λ (h : Halt). Err h in
     ⊎_elim (λ f. inr (c.in-Err.ensures.files (ap E f)).0) (λ s. inl (c.in-Err.ensures.script (ap E s))) (input-cause c.end.result c.in-Err.halt c.end.ensures.status six)
+
+pub returns-in-Err-clause-run_say_whole : goal.returns-in-Err-clause-run_say_whole
+returns-in-Err-clause-run_say_whole g c = λ functions text image lines h at there is left history has five.
+    fails-to-say (RunGoes g.D.Desk.image g.D.Desk.may_leave g.D.Desk.moment g.D.Desk.reach g.D.Desk.said g.D.Desk.asked c.args.desk.now c.end.new.desk text h lines) c.end.result five
+    (run-goes g.D.Desk.image g.D.Desk.may_leave g.D.Desk.moment g.D.Desk.reach g.D.Desk.said g.D.Desk.asked c.args.desk.now c.command.new.desk c.end.new.desk c.end.result
+    text h lines c.in-Err.halt c.end.ensures.closes (c.in-Err.ensures.run_goes functions text image lines h at there is left history has))
+
+pub returns-in-Err-clause-recover_say_whole : goal.returns-in-Err-clause-recover_say_whole
+returns-in-Err-clause-recover_say_whole g c = λ functions text image turns h at there is history has five.
+    fails-to-say (RecoverGoes g.D.Desk.image g.D.Desk.may_leave g.D.Desk.moment g.D.Desk.reach g.D.Desk.said g.D.Desk.asked c.args.desk.now c.end.new.desk text h turns) c.end.result five
+    (recover-goes g.D.Desk.image g.D.Desk.may_leave g.D.Desk.moment g.D.Desk.reach g.D.Desk.said g.D.Desk.asked c.args.desk.now c.command.new.desk c.end.new.desk c.end.result
+    text h turns c.in-Err.halt c.end.ensures.closes (c.in-Err.ensures.recover_goes functions text image turns h at there is history has))
+
+pub returns-in-Err-clause-gen_say_whole : goal.returns-in-Err-clause-gen_say_whole
+returns-in-Err-clause-gen_say_whole g c = λ number count image h at is history has five.
+    fails-to-say (GenGoes g.D.Desk.image g.D.Desk.may_leave g.D.Desk.moment g.D.Desk.reach g.D.Desk.said g.D.Desk.asked c.args.desk.now c.end.new.desk BANK.now h number count) c.end.result five
+    (gen-goes g.D.Desk.image g.D.Desk.may_leave g.D.Desk.moment g.D.Desk.reach g.D.Desk.said g.D.Desk.asked c.args.desk.now c.command.new.desk c.end.new.desk c.end.result
+    BANK.now h number count c.in-Err.halt c.end.ensures.closes (c.in-Err.ensures.gen_goes number count image h at is history has))
