@@ -1,0 +1,11 @@
+mod Same
+mod Writing
+mod Keeping
+mod Bringing
+mod Growing
+mod Starts
+mod Firsts
+mod Telling
+mod Placing
+mod Storing
+mod Worked
