@@ -23,9 +23,9 @@ use Rattle.r3_laws.proofs.After.{after, copies, copies-flow}
 use Rattle.r3_laws.proofs.CasesOf.{case-of}
 use Rattle.r3_repeats.specs.Flows.{row_now}
 use Rattle.r3_repeats.specs.Starting.{IsStartOf}
-use Rattle.r3_repeats.proofs.Writing.{AllHold, entry-holds, step-holds, puts-hold, load-holds, steps-hold}
+use Rattle.r3_repeats.proofs.Writing.{AllHold, entry-holds, no-step, puts-hold, load-holds, steps-hold}
 use Rattle.r3_repeats.proofs.Keeping.{IsGiven}
-use Rattle.r3_repeats.proofs.Starts.{brought}
+use Rattle.r3_repeats.proofs.Beginning.{brought}
 
 -- a row in the cell has this number
 abbrev Numbers : ℕ → Option Cell → Type 0
@@ -51,11 +51,11 @@ module _ (P : Language) (h : List Entry) (id : Text) (none : row_now h id ≡ No
   moved e0 is all = let Of : Entry → Type 0 = λ x. AllNumber x.writes in subst Of (sym is) all
 
   ask-numbers : {snap : Option ℕ} {answer : Option Outcome} (own : Text) (q : Request) → AskCase P h own q snap answer e → AllNumber e.writes
-  ask-numbers own q (commits s kind snap_is free is) = moved _ is (puts-hold (Numbers (length h + 1)) id (run_on P h own s q).writes _ (step-holds (Numbers (length h + 1)) id own q.n _, tt))
-  ask-numbers own q (hears o kind heard is) = moved _ is (step-holds (Numbers (length h + 1)) id own q.n _, tt)
-  ask-numbers own q (bears kind gone few is) = moved _ is (new _ _ refl, (step-holds (Numbers (length h + 1)) id own q.n _, tt))
-  ask-numbers own q (links child o kind child_is o_is is) = moved _ is (step-holds (Numbers (length h + 1)) id own q.n _, tt)
-  ask-numbers own q (awaits o kind found is) = moved _ is (step-holds (Numbers (length h + 1)) id own q.n _, tt)
+  ask-numbers own q (commits s kind snap_is free is) = moved _ is (puts-hold (Numbers (length h + 1)) id (run_on P h own s q).writes _ (no-step id own q.n, tt))
+  ask-numbers own q (hears o kind heard is) = moved _ is (no-step id own q.n, tt)
+  ask-numbers own q (bears kind gone few is) = moved _ is (new _ _ refl, (no-step id own q.n, tt))
+  ask-numbers own q (links child o kind child_is o_is is) = moved _ is (no-step id own q.n, tt)
+  ask-numbers own q (awaits o kind found is) = moved _ is (no-step id own q.n, tt)
 
   case-numbers : {ev : Event} {snap : Option ℕ} {answer : Option Outcome} → Case P h ev snap answer e → AllNumber e.writes
   case-numbers (programs text ev is) = moved _ is tt
@@ -108,7 +108,7 @@ module _ (P : Language) (h : List Entry) (id : Text) (e : Entry) (begins : IsSta
 
 -- and its workflow is there behind it
 module _ (P : Language) (h : List Entry) (id : Text) (e : Entry) (begins : IsStartOf id e.act) where
-  IsThere : Type 0
+  abbrev pub IsThere : Type 0
   IsThere = (row : FlowRow) × (row_now (h ++ e ∷ []) id ≡ Some row)
 
   there_of : (own : Text) (row : FlowRow) (rest : Writes) → own ≡ id → e.writes ≡ flow_write own row ∷ rest → after rest (keys.Flow own) (Some (cells.Flow row)) ≡ Some (cells.Flow row) → IsThere

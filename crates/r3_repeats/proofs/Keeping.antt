@@ -26,7 +26,7 @@ use Rattle.r3_laws.proofs.Cases.{AskCase, commits, hears, bears, links, awaits, 
 use Rattle.r3_laws.proofs.CasesOf.{case-of}
 use Rattle.r3_repeats.specs.Flows.{row_now, is_ended, IsSameFlow}
 use Rattle.r3_repeats.proofs.Same.{same-refl, not-ended, cancelled-not_ended, resumed-not_ended}
-use Rattle.r3_repeats.proofs.Writing.{AllHold, entry-holds, step-holds, puts-hold, load-holds, steps-hold}
+use Rattle.r3_repeats.proofs.Writing.{AllHold, entry-holds, no-step, puts-hold, load-holds, steps-hold}
 
 -- the entry is what some event gives on this history
 pub record IsGiven (P : Language) (h : List Entry) (e : Entry) : Type 0 where
@@ -63,11 +63,11 @@ module _ (P : Language) (h : List Entry) (id : Text) (row : FlowRow) (there : ro
   moved e0 is all = let Of : Entry → Type 0 = λ x. AllKeep x.writes in subst Of (sym is) all
 
   ask-keeps : {snap : Option ℕ} {answer : Option Outcome} (own : Text) (q : Request) → AskCase P h own q snap answer e → AllKeep e.writes
-  ask-keeps own q (commits s kind snap_is none is) = moved _ is (puts-hold (Keeps row) id (run_on P h own s q).writes _ (step-holds (Keeps row) id own q.n _, tt))
-  ask-keeps own q (hears o kind heard is) = moved _ is (step-holds (Keeps row) id own q.n _, tt)
-  ask-keeps own q (bears kind none few is) = moved _ is (gone _ none, (step-holds (Keeps row) id own q.n _, tt))
-  ask-keeps own q (links child o kind child_is o_is is) = moved _ is (step-holds (Keeps row) id own q.n _, tt)
-  ask-keeps own q (awaits o kind found is) = moved _ is (step-holds (Keeps row) id own q.n _, tt)
+  ask-keeps own q (commits s kind snap_is none is) = moved _ is (puts-hold (Keeps row) id (run_on P h own s q).writes _ (no-step id own q.n, tt))
+  ask-keeps own q (hears o kind heard is) = moved _ is (no-step id own q.n, tt)
+  ask-keeps own q (bears kind none few is) = moved _ is (gone _ none, (no-step id own q.n, tt))
+  ask-keeps own q (links child o kind child_is o_is is) = moved _ is (no-step id own q.n, tt)
+  ask-keeps own q (awaits o kind found is) = moved _ is (no-step id own q.n, tt)
 
   case-keeps : {ev : Event} {snap : Option ℕ} {answer : Option Outcome} → Case P h ev snap answer e → AllKeep e.writes
   case-keeps (programs text ev is) = moved _ is tt

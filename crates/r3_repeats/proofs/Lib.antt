@@ -3,9 +3,9 @@ mod Writing
 mod Keeping
 mod Bringing
 mod Growing
-mod Starts
+mod Beginning
 mod Firsts
 mod Telling
 mod Placing
+mod Holding
 mod Storing
-mod Worked

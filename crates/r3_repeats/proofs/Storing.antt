@@ -92,12 +92,12 @@ module _ (P : Language) where
       }
 
   -- what stood when the one line was done stands when the other is begun
-  record Lasts (one two : Line) (r s : Reply) : Type 0 where
-    early : Told
-    late : Told
-    early_reply : (line-done P early one).reply ≡ r
-    late_reply : (line-done P late two).reply ≡ s
-    grows : Grows P (line-done P early one).trail.state.history late.trail.state.history
+  pub record Lasts (one two : Line) (r s : Reply) : Type 0 where
+    pub early : Told
+    pub late : Told
+    pub early_reply : (line-done P early one).reply ≡ r
+    pub late_reply : (line-done P late two).reply ≡ s
+    pub grows : Grows P (line-done P early one).trail.state.history late.trail.state.history
 
   module _ (first : List Entry) (calls : List Invocation) (one two : Line) (r s : Reply) (lines : AreLines P first calls one r two s) where
     place-one : PlaceIn lines.early lines.k one

@@ -21,7 +21,7 @@ use Rattle.r3_repeats.specs.Flows.{row_now, IsSameFlow}
 use Rattle.r3_repeats.specs.Starting.{id_of_start, is_start, is_named, call_of_start, tests_of_start, reply_unless, repeat_reply, IsStartOf}
 use Rattle.r3_repeats.specs.Laws.{TellsRepeats, AcceptedStands, AcceptedIsFirst, AddsNothing, AcceptsAgain}
 use Rattle.r3_repeats.proofs.Growing.{Stays, grows-keeps, run-grows}
-use Rattle.r3_repeats.proofs.Starts.{Begins, BeginsOrNot, IsFresh, starts-begin, id-starts, repeat-comes, repeat-said, fresh-said}
+use Rattle.r3_repeats.proofs.Beginning.{Begins, BeginsOrNot, IsFresh, starts-begin, id-starts, repeat-comes, repeat-said, fresh-said}
 
 one_id : (a b : Text) → Some a ≡ Some b → a ≡ b
 one_id a b is = cc
@@ -114,7 +114,7 @@ module _ (P : Language) (st : State) (command : Command) where
   pub accepted : (answers : List (Option Outcome)) (n : ℕ) (id : Text) → is_start command ≡ true → (step P st (Run command) answers).reply ≡ EntryOf n id → IsAccepted answers n id
   accepted answers n id starts said = accepted_by answers n id (starts-begin P st.history command starts) said
 
-  FirstOf : List (Option Outcome) → ℕ → Text → Type 0
+  abbrev FirstOf : List (Option Outcome) → ℕ → Text → Type 0
   FirstOf answers n id = (row : FlowRow) × (entry : Entry) × ((step P st (Run command) answers).state.history ≡ st.history ++ entry ∷ []) × IsStartOf id entry.act
       × (n ≡ length st.history + 1) × (row_now (st.history ++ entry ∷ []) id ≡ Some row)
       × (call_of_start st.history command ≡ Some (row.function, row.args))

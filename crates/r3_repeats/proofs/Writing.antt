@@ -17,6 +17,9 @@ use Rattle.r3_model.specs.Acts.{Writes, put_write, row_write, step_write, in_ord
 use Rattle.r3_laws.proofs.After.{after, cell-after, tied}
 use Rattle.r3_laws.proofs.Loads.{AreRows, in_order-rows}
 
+pub no-step : {A : Type 0} (id own : Text) (n : ℕ) → keys.Step own n ≡ keys.Flow id → A
+no-step id own n same = absurd (let z : keys.Step own n ≡ keys.Flow id = same in cc)
+
 module _ (A : Option Cell → Type 0) (id : Text) where
   -- of the workflow's own row
   abbrev pub Holds : Key × Option Cell → Type 0
@@ -41,8 +44,8 @@ module _ (A : Option Cell → Type 0) (id : Text) where
   user-holds : (table key : Text) (c : Option Cell) → Holds (keys.User table key, c)
   user-holds table key c same = absurd (let z : keys.User table key ≡ keys.Flow id = same in cc)
 
-  pub step-holds : (own : Text) (n : ℕ) (c : Option Cell) → Holds (keys.Step own n, c)
-  step-holds own n c same = absurd (let z : keys.Step own n ≡ keys.Flow id = same in cc)
+  step-holds : (own : Text) (n : ℕ) (c : Option Cell) → Holds (keys.Step own n, c)
+  step-holds own n c same = no-step id own n same
 
   pub puts-hold : (puts : List Put) (rest : Writes) → AllHold rest → AllHold (map put_write puts ++ rest)
   puts-hold [] rest all = all

@@ -13,7 +13,7 @@ use Rattle.r3_model.specs.Made.{IsMade}
 use Rattle.r3_model.specs.Script.{Line, Does}
 use Rattle.r3_repeats.specs.Flows.{row_now, is_ended, IsSameFlow, IsFirstOf}
 use Rattle.r3_repeats.specs.Starting.{id_of_start, is_start, is_named, call_of_start, tests_of_start, reply_unless, repeat_reply, IsStartOf}
-use Rattle.r3_repeats.specs.Invocations.{Invocation, AreOnOneStore, Replied, Outlives}
+use Rattle.r3_repeats.specs.Invocations.{Invocation, GoesByMachine, IsWhole, AreOnOneStore, Replied, Outlives}
 
 -- ---- workflows stay
 
@@ -71,6 +71,10 @@ AcceptsAgain = (P : Language) (t : Trail) (command : Command) (evs : List Event)
     → (next P (run P (next P t (Run command)) evs) (Run command)).last ≡ EntryOf number id
 
 -- ---- calls on one store
+
+-- a call that lost nothing has kept all that was acknowledged, whatever was said and asked
+abbrev pub WholeGoes : Type 0
+WholeGoes = (P : Language) (i : Invocation) → IsWhole P i → GoesByMachine P i
 
 -- a line of one call and a line of the same or a later call, with their replies, where what the first did was not lost
 pub record AreLines (P : Language) (first : List Entry) (calls : List Invocation) (line : Line) (reply : Reply) (line' : Line) (reply' : Reply) : Type 0 where
