@@ -64,6 +64,7 @@ module _ (P : Language) where
   run-within t (ev ∷ evs) all = run-within (next P t ev) evs (next-within t ev all)
 
   line-within : (told : Told) (line : Line) → IsWithin told.trail → IsWithin (line-done P told line).trail
+  unfolding line-done
   line-within told (Does ev) all = next-within told.trail ev all
   line-within told (Drain turns) all =
       let d = drained-run P Plain turns told.trail in

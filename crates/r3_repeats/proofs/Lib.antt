@@ -9,3 +9,4 @@ mod Telling
 mod Placing
 mod Holding
 mod Storing
+mod Worked

@@ -67,7 +67,7 @@ module _ (P : Language) where
     pub grows : Grows P told.trail.state.history trail.state.history
     pub asks : Asks told.trail trail
 
-  pub line-done : (told : Told) (line : Line) → DoesLine told line
+  unfoldable pub line-done : (told : Told) (line : Line) → DoesLine told line
   line-done told (Does ev) = record {
     trail = next P told.trail ev;
     reply = (next P told.trail ev).last;
@@ -104,6 +104,10 @@ module _ (P : Language) where
   answered-counted told line counted =
       let d = line-done told line in
       subst Counted (sym d.is) (saying-counted told d.trail d.reply d.asks counted)
+
+  pub lines-counted : (told : Told) (lines : List Line) → Counted told → Counted (fold (answered P) told lines)
+  lines-counted told [] counted = counted
+  lines-counted told (line ∷ lines) counted = lines-counted (answered P told line) lines (answered-counted told line counted)
 
   pub answered-grows : (told : Told) (line : Line) → Grows P told.trail.state.history (answered P told line).trail.state.history
   answered-grows told line =

@@ -169,6 +169,7 @@ one_row : (a b : FlowRow) → Some a ≡ Some b → a ≡ b
 one_row a b is = cc
 
 pub repeats-alike : RepeatsAreAlike
+unfolding line-done
 repeats-alike P first calls one two n m id starts_one starts_two lines =
     let l = lasts P first calls (Does (Run one)) (Does (Run two)) (EntryOf n id) (EntryOf m id) lines in
     let a = accepted P l.early.trail.state one l.early.trail.answers n id starts_one l.early_reply in
@@ -181,6 +182,7 @@ repeats-alike P first calls one two n m id starts_one starts_two lines =
     sym b.number ∙ ap (λ (row : FlowRow). row.started) (sym same) ∙ s.2.started ∙ a.number
 
 pub accepted-accepted : AcceptedIsAccepted
+unfolding line-done
 accepted-accepted P first calls command n id reply named lines =
     let l = lasts P first calls (Does (Run command)) (Does (Run command)) (EntryOf n id) reply lines in
     let a = accepted P l.early.trail.state command l.early.trail.answers n id (named-starts command named) l.early_reply in
@@ -192,6 +194,7 @@ shown-there id row None is = absurd (let z : Refused UnknownId ≡ Row id row = 
 shown-there id row (Some r) is = let z : Row id r ≡ Row id row = is in cc
 
 pub accepted-shown : AcceptedIsShown
+unfolding line-done
 accepted-shown P first calls command n id reply starts lines =
     let l = lasts P first calls (Does (Run command)) (Does (ShowStatus id)) (EntryOf n id) reply lines in
     let a = accepted P l.early.trail.state command l.early.trail.answers n id starts l.early_reply in
@@ -199,6 +202,7 @@ accepted-shown P first calls command n id reply starts lines =
     (s.0, sym l.late_reply ∙ ap (λ (o : Option FlowRow). shown id o) s.1, s.2.started ∙ a.number)
 
 pub results-alike : ResultsAreAlike
+unfolding line-done
 results-alike P first calls id row reply ended lines =
     let l = lasts P first calls (Does (ShowStatus id)) (Does (ShowStatus id)) (Row id row) reply lines in
     let there : row_now l.early.trail.state.history id ≡ Some row = shown-there id row (row_now l.early.trail.state.history id) l.early_reply in
