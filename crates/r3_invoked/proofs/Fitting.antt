@@ -1,9 +1,9 @@
 -- What is said of a call makes it one that goes by the machine.
-use Rattle.std.proofs.Common.{◌≡◌, ◌⊎◌, inl, inr, ⊎_elim, ℕ, ◌+◌, ◌-◌, ◌≤◌, List, [], ◌∷◌, ◌++◌, take, length, Option, Some, None, refl, sym, subst, ap, ◌∙◌, arith, length-append}
+use Rattle.std.proofs.Common.{◌≡◌, ◌⊎◌, inl, inr, ⊎_elim, ℕ, ◌+◌, ◌-◌, ◌≤◌, List, [], ◌∷◌, ◌++◌, map, take, length, Option, Some, None, refl, sym, subst, ap, ◌∙◌, arith, length-append}
 use Rattle.std.specs.Prelude.{fold, max, flat_map}
 use Rattle.std.specs.Option.{ForSome}
-use Rattle.std.proofs.Math.Seq.{take-length}
-use Rattle.std.proofs.lemmas.List.{append_assoc, append-nil, take_all}
+use Rattle.std.proofs.Math.Nat.{max-le}
+use Rattle.std.proofs.lemmas.List.{append_assoc, append-nil, take-append-le}
 use Rattle.std.proofs.lemmas.List.Sums.{fold-append}
 use Rattle.r3_value.specs.declared.value.Outcome.{Outcome}
 use Rattle.r3_entry.specs.declared.entry.Entry.{Entry}
@@ -12,14 +12,15 @@ use Rattle.r3_desk.specs.Asked as desk
 use Rattle.r3_desk.specs.Crash.{Reach, LeavesOnly}
 use Rattle.r3_desk.specs.Disk.{told_len, told_push}
 use Rattle.r3_model.specs.Language.{Text, Language}
-use Rattle.r3_model.specs.Event.{Event, Reply, Call}
+use Rattle.sys_flow.specs.declared.command.Command.TheVariants.{Recover}
+use Rattle.r3_model.specs.Event.{Event, Run, Reply, Call}
 use Rattle.r3_model.specs.Held.{Mark, Said, Asked, said_by, owed, held}
 use Rattle.r3_model.specs.Machine.{State}
 use Rattle.r3_model.specs.Replies.{reply_text}
-use Rattle.r3_model.specs.Run.{Trail, restarted, next}
+use Rattle.r3_model.specs.Run.{Trail, from_state, restarted, next, run, pending_ids}
 use Rattle.r3_model.specs.Drain.{Plain, drained}
 use Rattle.r3_model.specs.Script.{Line, Does, Drain, Unread, Unformed, Told, answered, saying, called, opened}
-use Rattle.r3_recover.specs.Drained.{answers_of}
+use Rattle.r3_recover.specs.Drained.{Drains, answers_of}
 use Rattle.r3_recover.specs.Kept.{marks_on}
 use Rattle.r3_recover.specs.Opened.{OpensTo}
 use Rattle.r3_session.specs.Answered.{AnswersTo, IsPart}
@@ -95,10 +96,6 @@ module _ (P : Language) (text : Text) (h : List Entry) where
     -- one line more, with its answers
     more : (one : Line) (answers : List (Option Outcome)) → called P text h (lines ++ one ∷ []) answers ≡ answered P (called P text h lines answers) one
     more one answers = fold-append (answered P) (begun P text h answers) lines (one ∷ [])
-
-    module _ (part_calls : List Call) (part_marks : List Mark) (after : State) where
-      answers : List (Option Outcome)
-      answers = answers_of calls ++ (answers_of part_calls ++ [])
 
     -- the line was done whole, and this was its reply
     whole-come : (part_calls : List Call) (part_marks : List Mark) (after : State) (reply : Reply) → AnswersTo P line before after part_calls part_marks reply
@@ -221,17 +218,42 @@ module _ (P : Language) (text : Text) (h : List Entry) where
 
   -- ---- an opening
 
+  recovered-marks : (ids : List Text) (t : Trail) → t.marks ≡ [] → (run P t (map (λ (id : Text). Run (Recover id)) ids)).marks ≡ []
+  recovered-marks [] t none = none
+  recovered-marks (id ∷ ids) t none = recovered-marks ids (next P t (Run (Recover id))) (append-nil t.marks ∙ none)
+
+  -- it asks nothing
+  opened-marks : (g : List Entry) (answers : List (Option Outcome)) → (opened P text g answers).marks ≡ []
+  opened-marks [] answers = refl
+  opened-marks (e ∷ es) answers = recovered-marks (pending_ids (restarted (e ∷ es))) (from_state (restarted (e ∷ es)) answers) refl
+
   pub opening-left : (after : State) (n m len : ℕ) (image : List ℕ) → (after ≡ restarted h) ⊎ OpensTo P text h after → len ≤ length after.history → length h ≤ len → IsHistoryOf (take len after.history) image
       → IsLeftBy P text h [] n m image
   opening-left after n m len image (inl same) within kept is =
-      let history : List Entry = (called P text h [] []).trail.state.history in
-      let c : HasCome [] history (called P text h [] []).trail.marks = record { answers = []; history_is = refl; marks_are = refl } in
-      let none : (called P text h [] []).trail.marks ≡ [] = ? in
-      ?
+      let call : Invocation = record { text = text; before = h; lines = []; answers = []; said = n; asked = m; left = [] } in
+      let grows : Grows P h (opened P text h []).state.history = called-grows P call in
+      let last : List Entry = (opened P text h []).state.history in
+      let history : after.history ≡ h = ap (λ (st : State). st.history) same in
+      let short : len ≤ length h = omega (arith, within, ap (λ (es : List Entry). length es) history) in
+      let first : take len after.history ≡ take len last =
+          ap (λ (es : List Entry). take len es) history ∙ sym (take-append-le len h grows.entries short) ∙ ap (λ (es : List Entry). take len es) (sym grows.is) in
+      let Of : List Entry → Type 0 = λ es. IsHistoryOf es image in
+      let c : HasCome [] last [] = record { answers = []; history_is = refl; marks_are = opened-marks h [] } in
+      left-by [] last [] n m len image c (omega (arith, short, grows-longer P h last grows)) (max-le kept (omega arith)) (subst Of first is)
   opening-left after n m len image (inr opens) within kept is =
       let x = opens [] in
       let c : HasCome [] after.history [] = record { answers = []; history_is = ap (λ (st : State). st.history) x.state; marks_are = x.marks_are } in
       left-by [] after.history [] n m len image c within (max-le kept (omega arith)) is
+
+-- ---- bytes that were said
+
+pub said-within : (before : Option (List ℕ)) (more : List ℕ) (n : ℕ) (now : Option (List ℕ)) → now ≡ told_push before more → n ≤ told_len now → n - told_len before ≤ length more
+said-within None more n now is le =
+    let few : told_len now ≡ 0 = ap (λ (o : Option (List ℕ)). told_len o) is in
+    omega (arith, le, few)
+said-within (Some xs) more n now is le =
+    let all : told_len now ≡ length (xs ++ more) = ap (λ (o : Option (List ℕ)). told_len o) is in
+    omega (arith, le, all, length-append xs more)
 
 -- ---- on one disk
 
