@@ -33,7 +33,7 @@ asks-silent : (n : ℕ) (calls : List Call) → said_by (map (λ (c : Call). Ask
 asks-silent n [] = refl
 asks-silent n (c ∷ cs) = asks-silent n cs
 
-asks-refl : (t : Trail) → Asks t t
+pub asks-refl : (t : Trail) → Asks t t
 asks-refl t = record { more = []; is = sym (append-nil t.marks); silent = refl }
 
 asks-trans : (t u v : Trail) → Asks t u → Asks u v → Asks t v
@@ -44,14 +44,14 @@ asks-trans t u v one two = record {
 }
 
 module _ (P : Language) where
-  next-asks : (t : Trail) (ev : Event) → Asks t (next P t ev)
+  pub next-asks : (t : Trail) (ev : Event) → Asks t (next P t ev)
   next-asks t ev = record { more = asks_of t.state (step P t.state ev t.answers); is = refl; silent = asks-silent (length t.state.history) (step P t.state ev t.answers).calls }
 
   run-asks : (t : Trail) (evs : List Event) → Asks t (run P t evs)
   run-asks t [] = asks-refl t
   run-asks t (ev ∷ evs) = asks-trans t (next P t ev) (run P (next P t ev) evs) (next-asks t ev) (run-asks (next P t ev) evs)
 
-  drain-asks : (n : ℕ) (t : Trail) → Asks t (drained (next P) P.queues Plain n t).trail
+  pub drain-asks : (n : ℕ) (t : Trail) → Asks t (drained (next P) P.queues Plain n t).trail
   drain-asks n t =
       let d = drained-run P Plain n t in
       let Of : Trail → Type 0 = λ u. Asks t u in
