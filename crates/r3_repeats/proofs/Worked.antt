@@ -16,13 +16,11 @@ use Rattle.sys_flow.specs.declared.command.Command.{Command}
 use Rattle.sys_flow.specs.declared.command.Command.TheVariants.{Start}
 use Rattle.r3_model.specs.Language.{Text, Language}
 use Rattle.r3_model.specs.Event.{Reply, Run, Turn, ShowStatus, Entry as Numbered, EntryOf, Row}
-use Rattle.r3_model.specs.Held.{Said}
 use Rattle.r3_model.specs.Replies.{reply_text}
 use Rattle.r3_model.specs.Acts.{program_entry, start_entry, finish_entry, started}
-use Rattle.r3_model.specs.Script.{Line, Does}
+use Rattle.r3_model.specs.Script.{Line, Does, held_by}
 use Rattle.r3_repeats.specs.Invocations.{Invocation, told_in, GoesByMachine, AreOnOneStore, Replied, IsAcknowledged, Outlives, acknowledged}
 use Rattle.r3_repeats.specs.Laws.{AreLines}
-use Rattle.r3_repeats.proofs.Storing.{repeats-alike, accepted-accepted, results-alike}
 
 -- one workflow, which ends at once
 tiny : Language
@@ -85,37 +83,45 @@ again = record {
 }
 
 said_by_cut : (told_in tiny cut).said ≡ EntryOf 2 (codes "a") ∷ Numbered 3 ∷ Row (codes "a") ended ∷ EntryOf 4 (codes "b") ∷ []
-unfolding digits serde_json_on_literals
+unfolding digits serde_json_on_literals tiny
 said_by_cut = refl
 
 said_again : (told_in tiny again).said ≡ EntryOf 2 (codes "a") ∷ Row (codes "a") ended ∷ []
-unfolding digits serde_json_on_literals
+unfolding digits serde_json_on_literals tiny
 said_again = refl
 
 -- the third reply was begun, so three entries are kept
 cut-goes : GoesByMachine tiny cut
-unfolding digits serde_json_on_literals
-cut-goes = record { len = 3; within = omega arith; held_kept = omega arith; left_is = refl }
+unfolding digits serde_json_on_literals tiny
+cut-goes =
+    let count : length (told_in tiny cut).trail.state.history ≡ 4 = refl in
+    let owes : held_by [] (told_in tiny cut) 34 0 ≡ 3 = refl in
+    record { len = 3; within = omega (arith, count); held_kept = omega (arith, owes); left_is = refl }
 
 again-goes : GoesByMachine tiny again
-unfolding digits serde_json_on_literals
-again-goes = record { len = 3; within = omega arith; held_kept = omega arith; left_is = refl }
+unfolding digits serde_json_on_literals tiny
+again-goes =
+    let count : length (told_in tiny again).trail.state.history ≡ 3 = refl in
+    let owes : held_by three (told_in tiny again) 22 0 ≡ 3 = refl in
+    record { len = 3; within = omega (arith, count); held_kept = omega (arith, owes); left_is = refl }
 
 on_store : AreOnOneStore tiny [] (cut ∷ again ∷ [])
 on_store = (refl, cut-goes, (refl, again-goes, tt))
 
 first-acknowledged : IsAcknowledged tiny cut 0
-unfolding digits serde_json_on_literals
+unfolding digits serde_json_on_literals tiny
 first-acknowledged = omega arith
 
 third-acknowledged : IsAcknowledged tiny cut 2
-unfolding digits serde_json_on_literals
-third-acknowledged = omega arith
+unfolding digits serde_json_on_literals tiny
+third-acknowledged =
+    let bytes : length (flat_map reply_text (take 2 (told_in tiny cut).said)) ≡ 33 = refl in
+    omega (arith, bytes)
 
 -- ---- the premises of the laws hold of them
 
 starts : AreLines tiny [] (cut ∷ again ∷ []) (Does (Run (start (codes "a")))) (EntryOf 2 (codes "a")) (Does (Run (start (codes "a")))) (EntryOf 2 (codes "a"))
-unfolding digits serde_json_on_literals
+unfolding digits serde_json_on_literals tiny
 starts = record {
   on_store = on_store;
   a = 0;
@@ -132,7 +138,7 @@ starts = record {
 }
 
 results : AreLines tiny [] (cut ∷ again ∷ []) (Does (ShowStatus (codes "a"))) (Row (codes "a") ended) (Does (ShowStatus (codes "a"))) (Row (codes "a") ended)
-unfolding digits serde_json_on_literals
+unfolding digits serde_json_on_literals tiny
 results = record {
   on_store = on_store;
   a = 0;
