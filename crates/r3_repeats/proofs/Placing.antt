@@ -247,9 +247,9 @@ module _ (P : Language) where
       let c = lines-come (answered P p.before line) p.rest in
       let said : Mark = Said (length (reply_text d.reply)) (length d.trail.state.history) in
       let marks : (after_lines told lines).trail.marks ≡ d.trail.marks ++ said ∷ c.marks =
-          ap (λ (u : Told). u.trail.marks) p.last ∙ c.marks_are ∙ ap (λ (u : Told). u.trail.marks ++ c.marks) d.is ∙ append_assoc d.trail.marks (said ∷ []) c.marks in
+      ap (λ (u : Told). u.trail.marks) p.last ∙ c.marks_are ∙ ap (λ (u : Told). u.trail.marks ++ c.marks) d.is ∙ append_assoc d.trail.marks (said ∷ []) c.marks in
       let first : said_by d.trail.marks ≡ length (flat_map reply_text p.before.said) =
-          (let same : said_by d.trail.marks ≡ said_by p.before.trail.marks = omega (arith, ap (λ (ms : List Mark). said_by ms) d.asks.is, said-append p.before.trail.marks d.asks.more, d.asks.silent) in same ∙ p.counted counted) in
+      (let same : said_by d.trail.marks ≡ said_by p.before.trail.marks = omega (arith, ap (λ (ms : List Mark). said_by ms) d.asks.is, said-append p.before.trail.marks d.asks.more, d.asks.silent) in same ∙ p.counted counted) in
       let enough : length d.trail.state.history ≤ owed (d.trail.marks ++ said ∷ c.marks) n m = owed-said d.trail.marks (length (reply_text d.reply)) (length d.trail.state.history) c.marks n m (omega (arith, first, lt)) in
       let Of : List Mark → Type 0 = λ ms. length d.trail.state.history ≤ owed ms n m in
       subst Of (sym marks) enough

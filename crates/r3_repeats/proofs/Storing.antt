@@ -176,7 +176,7 @@ repeats-alike P first calls one two n m id starts_one starts_two lines =
     let b = accepted P l.late.trail.state two l.late.trail.answers m id starts_two l.late_reply in
     let old : List Entry = (next P l.early.trail (Run one)).state.history in
     let to : Grows P old (next P l.late.trail (Run two)).state.history =
-        grows-trans P old l.late.trail.state.history (next P l.late.trail (Run two)).state.history l.grows (line-done P l.late (Does (Run two))).grows in
+    grows-trans P old l.late.trail.state.history (next P l.late.trail (Run two)).state.history l.grows (line-done P l.late (Does (Run two))).grows in
     let s : Stays (next P l.late.trail (Run two)).state.history id a.row = grows-keeps P old (next P l.late.trail (Run two)).state.history id a.row to a.there in
     let same : s.0 ≡ b.row = one_row s.0 b.row (sym s.1 ∙ b.there) in
     sym b.number ∙ ap (λ (row : FlowRow). row.started) (sym same) ∙ s.2.started ∙ a.number

@@ -125,8 +125,7 @@ module _ (P : Language) (st : State) (command : Command) where
       let a : IsAccepted answers n id = accepted_by answers n id (inl b) said in
       let own : b.own ≡ id = one_id b.own id (sym b.id_is ∙ a.id_is) in
       let f = fresh-of answers n id b (ap (λ (x : Text). row_now st.history x) own ∙ gone) said in
-      let Act : Text → Type 0 = λ x. IsStartOf x b.entry.act in
-      (
+      let Act : Text → Type 0 = λ x. IsStartOf x b.entry.act in (
         b.row,
         b.entry,
         f.history,
