@@ -1,2 +1,0 @@
-mod Owed
-mod Fitting
