@@ -10,3 +10,4 @@ mod Placing
 mod Holding
 mod Storing
 mod Worked
+mod WorkedStarts

@@ -22,37 +22,37 @@ use Rattle.r3_model.specs.Script.{Line, Does, held_by}
 use Rattle.r3_repeats.specs.Invocations.{Invocation, told_in, GoesByMachine, AreOnOneStore, Replied, IsAcknowledged, Outlives, acknowledged}
 use Rattle.r3_repeats.specs.Laws.{AreLines}
 
--- one workflow, which ends at once
-tiny : Language
+-- two workflows, which end at once
+unfoldable pub tiny : Language
 tiny = record {
   has_table = λ table. false;
   queues = [];
-  arity = λ function. if bytes_eq function (codes "f") then Some 0 else None;
+  arity = λ function. if bytes_eq function (codes "f") then Some 0 else if bytes_eq function (codes "g") then Some 0 else None;
   flow = λ function args answers. Done (outcomes.Value Null);
   txn = λ name args m. record { outcome = outcomes.Value Null; reads = []; writes = [] };
 }
 
-abbrev no_args : Val
+abbrev pub no_args : Val
 no_args = ListOf value.no_items
 
-abbrev start : Text → Command
+abbrev pub start : Text → Command
 start id = Start (Some id) (codes "f") no_args
 
 -- ---- what is stored
 
-abbrev one : List Entry
+abbrev pub one : List Entry
 one = program_entry [] (codes "t") ∷ []
 
-abbrev two : List Entry
+abbrev pub two : List Entry
 two = program_entry [] (codes "t") ∷ start_entry one (codes "a") (codes "f") no_args ∷ []
 
-abbrev running : FlowRow
+abbrev pub running : FlowRow
 running = started status.Pending (codes "f") no_args None 2 None
 
-abbrev ended : FlowRow
+abbrev pub ended : FlowRow
 ended = record running { status = status.Success; outcome = Some (outcomes.Value Null) }
 
-abbrev three : List Entry
+abbrev pub three : List Entry
 three =
     program_entry [] (codes "t")
     ∷ start_entry one (codes "a") (codes "f") no_args
