@@ -1,17 +1,13 @@
 -- What a command that starts a workflow comes to: an entry that brings it, or its own reply where it is there.
-use Rattle.std.proofs.Common.{◌≡◌, ◌⊎◌, inl, inr, ℕ, ◌+◌, Bool, true, false, cond, List, [], ◌∷◌, ◌++◌, map, take, length, Option, Some, None, refl, sym, subst, ap, ◌∙◌}
+use Rattle.std.proofs.Common.{◌≡◌, ◌⊎◌, inl, inr, ℕ, ◌+◌, Bool, true, false, cond, List, [], ◌∷◌, ◌++◌, take, length, Option, Some, None, refl, sym, ap, ◌∙◌}
 use Rattle.std.specs.Prelude.{option_and_then, option_map, if◌then◌else◌, bytes_eq}
-use Rattle.std.specs.List.{enumerate_from}
 use Rattle.std.proofs.lemmas.Slice.Eq.{bytes_eq-Decides}
 use Rattle.r3_value.specs.declared.value.Val.{Val}
-use Rattle.r3_value.specs.declared.value.Outcome.{Outcome}
-use Rattle.r3_rows.specs.declared.rows.Key.{Key}
 use Rattle.r3_rows.specs.declared.rows.Key.TheVariants as keys
 use Rattle.r3_rows.specs.declared.rows.Cell.{Cell}
 use Rattle.r3_rows.specs.declared.rows.Cell.TheVariants as cells
 use Rattle.r3_rows.specs.declared.rows.FlowRow.{FlowRow}
 use Rattle.r3_rows.specs.declared.rows.Status.TheVariants as status
-use Rattle.r3_rows.specs.Keys.{key_cmp}
 use Rattle.r3_entry.specs.declared.entry.Entry.{Entry}
 use Rattle.r3_entry.specs.History.{cell_at}
 use Rattle.sys_flow.specs.declared.command.Command.{Command}
@@ -22,12 +18,12 @@ use Rattle.sys_flow.specs.declared.repeats.Repeat.TheVariants.{Known, Fresh}
 use Rattle.sys_flow.specs.declared.repeats.Repeat.TheVariants as repeats
 use Rattle.sys_flow.specs.Repeats.{repeat_of}
 use Rattle.r3_model.specs.Language.{Text, Language}
-use Rattle.r3_model.specs.Event.{Event, Run, Reply, EntryOf, Refused, Full, Limit}
+use Rattle.r3_model.specs.Event.{Run, Reply, EntryOf, Refused, Full, Limit}
 use Rattle.r3_model.specs.Given.{Given, Enters, Answers, unless, once}
-use Rattle.r3_model.specs.Rows.{flow_of, flow_at, steps_at}
+use Rattle.r3_model.specs.Rows.{flow_of, steps_at}
 use Rattle.r3_model.specs.Acts.{Writes, flow_write, started, start_entry, enqueue_entry, fork_entry}
-use Rattle.r3_model.specs.Commands.{commanded, id_or_made, forked, start_tests, enqueue_tests, fork_tests}
-use Rattle.r3_model.specs.Machine.{State, came, entered, full_of, after_act}
+use Rattle.r3_model.specs.Commands.{commanded, id_or_made, forked}
+use Rattle.r3_model.specs.Machine.{State, came, entered, full_of}
 use Rattle.r3_laws.proofs.After.{after, cell-after, copies-flow}
 use Rattle.r3_laws.proofs.Tells.{tie-refl}
 use Rattle.r3_repeats.specs.Flows.{row_now}

@@ -1,16 +1,14 @@
 -- An entry that brings a workflow has the number that its row tells, and one that starts it finds none.
-use Rattle.std.proofs.Common.{◌≡◌, ℕ, ◌+◌, Bool, true, false, cond, List, [], ◌∷◌, ◌++◌, map, take, length, Option, Some, None, refl, sym, subst, ap, ◌∙◌}
+use Rattle.std.proofs.Common.{◌≡◌, ℕ, ◌+◌, List, [], ◌∷◌, ◌++◌, take, length, Option, Some, None, refl, sym, subst, ap, ◌∙◌}
 use Rattle.std.specs.Prelude.{option_and_then}
 use Rattle.std.specs.List.{enumerate_from}
 use Rattle.r3_value.specs.declared.value.Outcome.{Outcome}
-use Rattle.r3_rows.specs.declared.rows.Key.{Key}
 use Rattle.r3_rows.specs.declared.rows.Key.TheVariants as keys
 use Rattle.r3_rows.specs.declared.rows.Cell.{Cell}
 use Rattle.r3_rows.specs.declared.rows.Cell.TheVariants as cells
 use Rattle.r3_rows.specs.declared.rows.FlowRow.{FlowRow}
 use Rattle.r3_rows.specs.declared.rows.Status.TheVariants as status
 use Rattle.r3_entry.specs.declared.entry.Entry.{Entry}
-use Rattle.r3_entry.specs.History.{cell_at}
 use Rattle.fn_tree.specs.declared.flow.Request.{Request}
 use Rattle.r3_model.specs.Language.{Text, Language}
 use Rattle.r3_model.specs.Event.{Event}

@@ -1,5 +1,5 @@
 -- The entry that started a workflow is the first of its ID, and stays it.
-use Rattle.std.proofs.Common.{◌≡◌, ◌⊎◌, inl, inr, ℕ, suc, zero, ◌+◌, ◌<◌, ◌≤◌, List, [], ◌∷◌, ◌++◌, take, length, Option, Some, None, refl, sym, subst, ap, ◌∙◌, arith, length-append}
+use Rattle.std.proofs.Common.{◌≡◌, inl, inr, ℕ, ◌+◌, ◌<◌, ◌≤◌, List, [], ◌∷◌, ◌++◌, take, length, Option, Some, None, refl, sym, subst, ap, ◌∙◌, arith, length-append}
 use Rattle.std.specs.Prelude.{option_and_then}
 use Rattle.std.proofs.lemmas.Bool.{cases_lt}
 use Rattle.std.proofs.lemmas.List.{append_assoc, append-nil, take_all}
@@ -9,14 +9,13 @@ use Rattle.r3_rows.specs.declared.rows.FlowRow.{FlowRow}
 use Rattle.r3_entry.specs.declared.entry.Entry.{Entry}
 use Rattle.r3_model.specs.Language.{Text, Language}
 use Rattle.r3_model.specs.Rows.{flow_of, flow_at}
-use Rattle.r3_model.specs.Made.{IsMade}
 use Rattle.r3_laws.proofs.Frame.{cell_at-before, length-push}
 use Rattle.r3_repeats.specs.Flows.{row_now, IsSameFlow, IsFirstOf}
 use Rattle.r3_repeats.specs.Laws.{EachHasFirst}
 use Rattle.r3_repeats.proofs.Same.{same-refl, same-trans}
 use Rattle.r3_repeats.proofs.Keeping.{IsGiven}
 use Rattle.r3_repeats.proofs.Bringing.{given-numbers}
-use Rattle.r3_repeats.proofs.Growing.{AllGiven, Grows, Stays, grows-take, grows-keeps, flow-take, made-given}
+use Rattle.r3_repeats.proofs.Growing.{AllGiven, Grows, grows-take, grows-keeps, flow-take, made-given}
 
 -- what stood after the first entries stands after them in a longer history
 flow-before : (h more : List Entry) (j : ℕ) (id : Text) → j ≤ length h → flow_at (h ++ more) j id ≡ flow_at h j id

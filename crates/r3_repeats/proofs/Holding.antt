@@ -1,23 +1,22 @@
 -- A call that lost nothing keeps all that is owed.
-use Rattle.std.proofs.Common.{◌≡◌, ℕ, suc, zero, ◌-◌, ◌≤◌, List, [], ◌∷◌, ◌++◌, map, take, length, Option, refl, sym, subst, ap, ◌∙◌, arith}
-use Rattle.std.specs.Prelude.{max, ⊤}
+use Rattle.std.proofs.Common.{ℕ, suc, zero, ◌-◌, ◌≤◌, List, [], ◌∷◌, ◌++◌, map, length, sym, subst, ◌∙◌, arith}
+use Rattle.std.specs.Prelude.{⊤}
 use Rattle.std.proofs.Math.Nat.{max-le}
 use Rattle.std.proofs.Math.Seq.{take-length}
-use Rattle.r3_value.specs.declared.value.Outcome.{Outcome}
 use Rattle.r3_entry.specs.declared.entry.Entry.{Entry}
-use Rattle.r3_model.specs.Language.{Text, Language}
-use Rattle.r3_model.specs.Event.{Event, Reply, Call}
+use Rattle.r3_model.specs.Language.{Language}
+use Rattle.r3_model.specs.Event.{Event, Call}
 use Rattle.r3_model.specs.Held.{Mark, Said, Asked, due, owed}
-use Rattle.r3_model.specs.Machine.{State, step}
+use Rattle.r3_model.specs.Machine.{step}
 use Rattle.r3_model.specs.Replies.{reply_text}
 use Rattle.r3_model.specs.Run.{Trail, from_state, restarted, next, run, opening_events}
-use Rattle.r3_model.specs.Script.{Line, Does, Drain, Unread, Unformed, Told, saying, answered}
-use Rattle.r3_model.specs.Drain.{Plain, drained}
+use Rattle.r3_model.specs.Script.{Line, Does, Drain, Unread, Unformed, Told, answered}
+use Rattle.r3_model.specs.Drain.{Plain}
 use Rattle.r3_model.proofs.Drains.{drained-run}
-use Rattle.r3_repeats.specs.Invocations.{Invocation, told_in, GoesByMachine, IsWhole}
+use Rattle.r3_repeats.specs.Invocations.{Invocation, told_in}
 use Rattle.r3_repeats.specs.Laws.{WholeGoes}
 use Rattle.r3_repeats.proofs.Growing.{Grows, grows-trans, grows-longer, next-grows}
-use Rattle.r3_repeats.proofs.Placing.{line-done, answered-grows, after_lines, begun, begun-grows, lines-come}
+use Rattle.r3_repeats.proofs.Placing.{line-done, after_lines, begun, begun-grows, lines-come}
 
 -- no mark is of more entries
 abbrev pub AreWithin : ℕ → List Mark → Type 0

@@ -1,9 +1,8 @@
 -- Every entry that an event gives keeps each workflow that is there, as the same.
-use Rattle.std.proofs.Common.{◌≡◌, ℕ, ◌+◌, Bool, true, false, List, [], ◌∷◌, ◌++◌, map, take, length, Option, Some, None, refl, sym, subst, ap, ◌∙◌}
+use Rattle.std.proofs.Common.{◌≡◌, ℕ, List, [], ◌∷◌, ◌++◌, take, length, Option, Some, None, refl, sym, subst, ap, ◌∙◌}
 use Rattle.std.specs.Prelude.{option_and_then}
 use Rattle.std.specs.List.{enumerate_from}
 use Rattle.r3_value.specs.declared.value.Outcome.{Outcome}
-use Rattle.r3_rows.specs.declared.rows.Key.{Key}
 use Rattle.r3_rows.specs.declared.rows.Key.TheVariants as keys
 use Rattle.r3_rows.specs.declared.rows.Cell.{Cell}
 use Rattle.r3_rows.specs.declared.rows.Cell.TheVariants as cells
@@ -12,19 +11,18 @@ use Rattle.r3_rows.specs.declared.rows.Status.{Status}
 use Rattle.r3_rows.specs.declared.rows.Status.TheVariants as status
 use Rattle.r3_entry.specs.declared.entry.Entry.{Entry}
 use Rattle.r3_entry.specs.History.{cell_at}
-use Rattle.sys_flow.specs.Statuses.{may_cancel, may_resume, recovered}
+use Rattle.sys_flow.specs.Statuses.{recovered}
 use Rattle.fn_tree.specs.declared.flow.Request.{Request}
 use Rattle.r3_model.specs.Language.{Text, Language}
 use Rattle.r3_model.specs.Event.{Event, Reply}
-use Rattle.r3_model.specs.Given.{Given, Enters}
+use Rattle.r3_model.specs.Given.{Enters}
 use Rattle.r3_model.specs.Machine.{given}
 use Rattle.r3_model.specs.Rows.{flow_of, flow_at, steps_at}
-use Rattle.r3_model.specs.Acts.{Writes, flow_write, status_of}
-use Rattle.r3_model.specs.Commands.{id_or_made}
+use Rattle.r3_model.specs.Acts.{Writes, status_of}
 use Rattle.r3_model.specs.Turns.{run_on}
 use Rattle.r3_laws.proofs.Cases.{AskCase, commits, hears, bears, links, awaits, finishes, goes_on, Case, programs, loads, starts, enqueues, dequeues, turns, cancels, resumes, forks, recovers}
 use Rattle.r3_laws.proofs.CasesOf.{case-of}
-use Rattle.r3_repeats.specs.Flows.{row_now, is_ended, IsSameFlow}
+use Rattle.r3_repeats.specs.Flows.{row_now, IsSameFlow}
 use Rattle.r3_repeats.proofs.Same.{same-refl, not-ended, cancelled-not_ended, resumed-not_ended}
 use Rattle.r3_repeats.proofs.Writing.{AllHold, entry-holds, no-step, puts-hold, load-holds, steps-hold}
 

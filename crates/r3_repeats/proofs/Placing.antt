@@ -1,6 +1,6 @@
 -- The lines of a call one after another: what stands when each is answered, and what is owed once its reply was said.
 use Rattle.std.proofs.Common.{◌≡◌, ℕ, suc, zero, ◌+◌, ◌-◌, ◌<◌, ◌≤◌, List, [], ◌∷◌, ◌++◌, map, drop, take, length, Option, Some, None, refl, sym, subst, ap, ◌∙◌, arith, length-append}
-use Rattle.std.specs.Prelude.{fold, max, flat_map, slice_get}
+use Rattle.std.specs.Prelude.{fold, flat_map, slice_get}
 use Rattle.std.proofs.Math.Nat.{le-max_left, le-max_right}
 use Rattle.std.proofs.lemmas.Grind.{flat_map-append}
 use Rattle.std.proofs.lemmas.List.{append_assoc, append-nil, take_at}
@@ -9,10 +9,10 @@ use Rattle.r3_entry.specs.declared.entry.Entry.{Entry}
 use Rattle.r3_model.specs.Language.{Text, Language}
 use Rattle.r3_model.specs.Event.{Event, Reply, Call, NotRead, NotForm}
 use Rattle.r3_model.specs.Held.{Mark, Said, Asked, said_by, due, owed, asks_of}
-use Rattle.r3_model.specs.Machine.{State, Out, step}
+use Rattle.r3_model.specs.Machine.{step}
 use Rattle.r3_model.specs.Replies.{reply_text}
 use Rattle.r3_model.specs.Run.{Trail, from_state, restarted, next, run, opening_events}
-use Rattle.r3_model.specs.Script.{Line, Does, Drain, Unread, Unformed, Told, saying, answered, opened, called}
+use Rattle.r3_model.specs.Script.{Line, Does, Drain, Unread, Unformed, Told, saying, answered, opened}
 use Rattle.r3_model.specs.Drain.{Plain, drained}
 use Rattle.r3_model.proofs.Drains.{drained-run}
 use Rattle.r3_repeats.proofs.Growing.{Grows, grows-refl, grows-trans, next-grows, run-grows, drain-grows}

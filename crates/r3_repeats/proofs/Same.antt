@@ -1,6 +1,5 @@
 -- One workflow, earlier and later.
-use Rattle.std.proofs.Common.{◌≡◌, Bool, true, false, refl, sym, subst, ap, ◌∙◌}
-use Rattle.std.specs.Prelude.{IsTrue}
+use Rattle.std.proofs.Common.{◌≡◌, true, false, refl, sym, ap, ◌∙◌}
 use Rattle.r3_rows.specs.declared.rows.FlowRow.{FlowRow}
 use Rattle.r3_rows.specs.declared.rows.Status.{Status}
 use Rattle.r3_rows.specs.declared.rows.Status.TheVariants as status

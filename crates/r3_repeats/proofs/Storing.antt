@@ -1,31 +1,27 @@
 -- The laws of calls on one store.
-use Rattle.std.proofs.Common.{◌≡◌, ◌⊎◌, inl, inr, ℕ, suc, zero, ◌+◌, ◌-◌, ◌<◌, ◌≤◌, List, [], ◌∷◌, ◌++◌, drop, take, length, Option, Some, None, refl, sym, subst, ap, ◌∙◌, arith, length-append}
-use Rattle.std.specs.Prelude.{max, flat_map, slice_get}
+use Rattle.std.proofs.Common.{◌≡◌, inl, inr, ℕ, suc, zero, ◌+◌, ◌-◌, ◌<◌, ◌≤◌, List, [], ◌∷◌, ◌++◌, drop, take, length, Option, Some, None, sym, subst, ap, ◌∙◌, arith, length-append}
+use Rattle.std.specs.Prelude.{flat_map, slice_get}
 use Rattle.std.proofs.Math.Nat.{le-max_left, le-max_right}
 use Rattle.std.proofs.lemmas.Bool.{cases_lt}
-use Rattle.r3_value.specs.declared.value.Outcome.{Outcome}
 use Rattle.r3_rows.specs.declared.rows.FlowRow.{FlowRow}
 use Rattle.r3_entry.specs.declared.entry.Entry.{Entry}
-use Rattle.sys_flow.specs.declared.command.Command.{Command}
 use Rattle.sys_flow.specs.declared.command.Refusal.TheVariants.{UnknownId}
 use Rattle.r3_model.specs.Language.{Text, Language}
-use Rattle.r3_model.specs.Event.{Event, Run, ShowStatus, Reply, EntryOf, Row, Refused}
-use Rattle.r3_model.specs.Held.{held, owed}
-use Rattle.r3_model.specs.Machine.{State, step, shown}
+use Rattle.r3_model.specs.Event.{Run, ShowStatus, Reply, EntryOf, Row, Refused}
+use Rattle.r3_model.specs.Held.{owed}
+use Rattle.r3_model.specs.Machine.{shown}
 use Rattle.r3_model.specs.Replies.{reply_text}
-use Rattle.r3_model.specs.Run.{Trail, next}
+use Rattle.r3_model.specs.Run.{next}
 use Rattle.r3_model.specs.Script.{Line, Does, Told}
-use Rattle.r3_model.specs.Made.{IsMade}
 use Rattle.r3_laws.proofs.Overlap.{drop-at, take-next}
-use Rattle.r3_repeats.specs.Flows.{row_now, is_ended, IsSameFlow}
-use Rattle.r3_repeats.specs.Starting.{id_of_start, is_start, is_named, IsStartOf}
-use Rattle.r3_repeats.specs.Invocations.{Invocation, told_in, GoesByMachine, IsWhole, AreOnOneStore, Replied, IsAcknowledged, Outlives, in_one_call, acknowledged, whole}
-use Rattle.r3_repeats.specs.Laws.{AreLines, RepeatsAreAlike, AcceptedIsAccepted, AcceptedIsShown, ResultsAreAlike, StartsEachOnce, StoresOneStart}
-use Rattle.r3_repeats.proofs.Growing.{AllGiven, Grows, Stays, grows-refl, grows-trans, grows-at, grows-take, grows-longer, grows-keeps, grows-between, given-at, made-given, given-append}
-use Rattle.r3_repeats.proofs.Keeping.{IsGiven}
+use Rattle.r3_repeats.specs.Flows.{row_now}
+use Rattle.r3_repeats.specs.Starting.{IsStartOf}
+use Rattle.r3_repeats.specs.Invocations.{Invocation, told_in, GoesByMachine, AreOnOneStore, Replied, IsAcknowledged, Outlives, in_one_call, acknowledged, whole}
+use Rattle.r3_repeats.specs.Laws.{AreLines, RepeatsAreAlike, AcceptedIsAccepted, AcceptedIsShown, ResultsAreAlike, StoresOneStart}
+use Rattle.r3_repeats.proofs.Growing.{AllGiven, Grows, Stays, grows-refl, grows-trans, grows-at, grows-take, grows-keeps, grows-between, given-at, made-given, given-append}
 use Rattle.r3_repeats.proofs.Bringing.{start-finds_none, start-brings}
-use Rattle.r3_repeats.proofs.Telling.{IsAccepted, accepted, accepts-again, named-starts}
-use Rattle.r3_repeats.proofs.Placing.{DoesLine, line-done, Counted, after_lines, lines-come, Place, place, place-reply, place-before, place-owed, begun, begun-counted, begun-grows}
+use Rattle.r3_repeats.proofs.Telling.{accepted, accepts-again, named-starts}
+use Rattle.r3_repeats.proofs.Placing.{line-done, after_lines, lines-come, Place, place, place-reply, place-before, place-owed, begun, begun-counted, begun-grows}
 
 module _ (P : Language) where
   -- ---- one call

@@ -1,6 +1,6 @@
 -- The laws of one start: what it is answered, and what it leaves.
-use Rattle.std.proofs.Common.{◌≡◌, ◌⊎◌, inl, inr, ℕ, ◌+◌, Bool, true, false, List, [], ◌∷◌, ◌++◌, length, Option, Some, None, refl, sym, subst, ap, ◌∙◌}
-use Rattle.std.specs.Prelude.{IsTrue, if◌then◌else◌, bytes_eq}
+use Rattle.std.proofs.Common.{◌≡◌, inl, inr, ℕ, ◌+◌, Bool, true, List, [], ◌∷◌, ◌++◌, length, Option, Some, None, refl, sym, subst, ap, ◌∙◌}
+use Rattle.std.specs.Prelude.{if◌then◌else◌}
 use Rattle.std.proofs.lemmas.Slice.Eq.{bytes_eq-Decides}
 use Rattle.r3_value.specs.declared.value.Val.{Val}
 use Rattle.r3_value.specs.declared.value.Outcome.{Outcome}
@@ -12,7 +12,7 @@ use Rattle.sys_flow.specs.declared.command.Refusal.{Refusal}
 use Rattle.sys_flow.specs.declared.command.Refusal.TheVariants as refusals
 use Rattle.sys_flow.specs.Repeats.{repeat_of}
 use Rattle.r3_model.specs.Language.{Text, Language}
-use Rattle.r3_model.specs.Event.{Event, Run, Reply, EntryOf, Refused}
+use Rattle.r3_model.specs.Event.{Run, Reply, EntryOf, Refused}
 use Rattle.r3_model.specs.Given.{Given, Enters, Answers, unless, once}
 use Rattle.r3_model.specs.Commands.{commanded}
 use Rattle.r3_model.specs.Machine.{State, step, came}

@@ -1,6 +1,6 @@
 -- A worked store: a call that a crash cuts, and a call that starts the same workflow again. The crash comes when one
 -- byte of the third reply was said: the first workflow has ended and is kept, and the second one's start is lost.
-use Rattle.std.proofs.Common.{◌≡◌, ℕ, List, [], ◌∷◌, ◌++◌, take, length, Some, None, refl, arith}
+use Rattle.std.proofs.Common.{◌≡◌, List, [], ◌∷◌, take, length, Some, None, refl, arith}
 use Rattle.std.specs.Prelude.{codes, bytes_eq, false, if◌then◌else◌, flat_map}
 use Rattle.std.specs.Fmt.{digits}
 use Rattle.serde_json.proofs.OnLiterals.{serde_json_on_literals}
@@ -15,11 +15,11 @@ use Rattle.fn_tree.specs.declared.flow.FlowEnd.TheVariants.{Done}
 use Rattle.sys_flow.specs.declared.command.Command.{Command}
 use Rattle.sys_flow.specs.declared.command.Command.TheVariants.{Start}
 use Rattle.r3_model.specs.Language.{Text, Language}
-use Rattle.r3_model.specs.Event.{Reply, Run, Turn, ShowStatus, Entry as Numbered, EntryOf, Row}
+use Rattle.r3_model.specs.Event.{Run, Turn, ShowStatus, Entry as Numbered, EntryOf, Row}
 use Rattle.r3_model.specs.Replies.{reply_text}
 use Rattle.r3_model.specs.Acts.{program_entry, start_entry, finish_entry, started}
-use Rattle.r3_model.specs.Script.{Line, Does, held_by}
-use Rattle.r3_repeats.specs.Invocations.{Invocation, told_in, GoesByMachine, AreOnOneStore, Replied, IsAcknowledged, Outlives, acknowledged}
+use Rattle.r3_model.specs.Script.{Does, held_by}
+use Rattle.r3_repeats.specs.Invocations.{Invocation, told_in, GoesByMachine, AreOnOneStore, IsAcknowledged, acknowledged}
 use Rattle.r3_repeats.specs.Laws.{AreLines}
 
 -- two workflows, which end at once

@@ -1,6 +1,6 @@
 -- Worked starts: a first one, the same again, one of another function and one with other arguments. And a history that
 -- the program made.
-use Rattle.std.proofs.Common.{◌≡◌, ℕ, ◌≤◌, List, [], ◌∷◌, ◌++◌, length, Option, Some, None, refl, arith}
+use Rattle.std.proofs.Common.{◌≡◌, [], Some, None, refl, arith}
 use Rattle.std.specs.Prelude.{codes, IsTrue}
 use Rattle.std.specs.Fmt.{digits}
 use Rattle.serde_json.proofs.OnLiterals.{serde_json_on_literals}
@@ -11,11 +11,11 @@ use Rattle.sys_flow.specs.declared.command.Command.TheVariants.{Start, Enqueue, 
 use Rattle.sys_flow.specs.declared.command.Refusal.TheVariants as refusals
 use Rattle.r3_model.specs.Event.{Run, EntryOf, Refused}
 use Rattle.r3_model.specs.Event as reply
-use Rattle.r3_model.specs.Machine.{State, step}
-use Rattle.r3_model.specs.Run.{from_state, restarted, next, run}
+use Rattle.r3_model.specs.Machine.{step}
+use Rattle.r3_model.specs.Run.{from_state, restarted, next}
 use Rattle.r3_model.specs.Made.{IsMade}
 use Rattle.r3_repeats.specs.Flows.{row_now, is_ended}
-use Rattle.r3_repeats.specs.Starting.{id_of_start, is_start, is_named}
+use Rattle.r3_repeats.specs.Starting.{is_named}
 use Rattle.r3_repeats.proofs.Worked.{tiny, no_args, start, one, two, three, running, ended}
 
 -- a new ID
@@ -84,7 +84,8 @@ made : IsMade tiny three
 unfolding digits serde_json_on_literals tiny
 made = (
   record { reply = reply.Entry 1; gives = refl; fits = refl; program = refl; below = omega arith; own = tt },
-  record { reply = EntryOf 2 (codes "a"); gives = refl; fits = refl; program = refl; below = omega arith; own = refl },
-  record { reply = reply.Entry 3; gives = refl; fits = refl; program = refl; below = omega arith; own = refl },
-  tt,
+  (
+    record { reply = EntryOf 2 (codes "a"); gives = refl; fits = refl; program = refl; below = omega arith; own = refl },
+    (record { reply = reply.Entry 3; gives = refl; fits = refl; program = refl; below = omega arith; own = refl }, tt),
+  ),
 )

@@ -1,9 +1,9 @@
 -- Calls of the program on one store, with crashes between and inside them.
-use Rattle.std.specs.Prelude.{◌≡◌, ℕ, ◌+◌, ◌<◌, ◌≤◌, List, [], ◌∷◌, length, take, flat_map, slice_get, Option, Some, ⊤}
+use Rattle.std.specs.Prelude.{◌≡◌, ℕ, ◌<◌, ◌≤◌, List, [], ◌∷◌, length, take, flat_map, slice_get, Option, Some, ⊤}
 use Rattle.r3_value.specs.declared.value.Outcome.{Outcome}
 use Rattle.r3_entry.specs.declared.entry.Entry.{Entry}
 use Rattle.r3_model.specs.Language.{Text, Language}
-use Rattle.r3_model.specs.Event.{Event, Reply}
+use Rattle.r3_model.specs.Event.{Reply}
 use Rattle.r3_model.specs.Replies.{reply_text}
 use Rattle.r3_model.specs.Script.{Line, Told, called, held_by}
 

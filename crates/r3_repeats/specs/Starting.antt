@@ -1,5 +1,5 @@
 -- The commands that start a workflow, and what one is answered whose ID is there.
-use Rattle.std.specs.Prelude.{◌≡◌, ◌⊎◌, ℕ, Bool, true, false, List, [], ◌∷◌, length, Option, Some, None, if◌then◌else◌, bytes_eq, option_map}
+use Rattle.std.specs.Prelude.{◌≡◌, Bool, true, false, List, [], ◌∷◌, Option, Some, None, if◌then◌else◌, bytes_eq, option_map}
 use Rattle.r3_value.specs.declared.value.Val.{Val}
 use Rattle.r3_rows.specs.declared.rows.FlowRow.{FlowRow}
 use Rattle.r3_entry.specs.declared.entry.Act.{Act}
@@ -10,7 +10,7 @@ use Rattle.sys_flow.specs.declared.command.Command.TheVariants.{Load, Start, Enq
 use Rattle.sys_flow.specs.declared.command.Refusal.{Refusal}
 use Rattle.sys_flow.specs.declared.command.Refusal.TheVariants as refusals
 use Rattle.r3_model.specs.Language.{Text, Language}
-use Rattle.r3_model.specs.Event.{Event, Run, Reply, EntryOf, Refused}
+use Rattle.r3_model.specs.Event.{Reply, EntryOf, Refused}
 use Rattle.r3_model.specs.Commands.{id_or_made, start_tests, enqueue_tests, fork_tests}
 use Rattle.r3_repeats.specs.Flows.{row_now}
 
