@@ -1,0 +1,5 @@
+pub mod Words
+pub mod Flows
+pub mod Kept
+pub mod Comes
+pub mod Done
