@@ -5,8 +5,6 @@ pub mod Working
 pub mod Running
 pub mod Refusing
 pub mod Causing
-pub mod Standing
 pub mod Closing
-pub mod Ordering
 pub mod Generating
 pub mod Unread

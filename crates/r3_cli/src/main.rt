@@ -8,7 +8,6 @@ mod begin;
 #[cfg(test)]
 mod cases;
 mod check;
-mod command;
 mod counts;
 mod files;
 mod functions;
