@@ -1,5 +1,5 @@
 -- A loop that tests each element.
-use Rattle.std.proofs.Common.{◌≡◌, ℕ, ◌+◌, ◌<◌, List, [], ◌∷◌, length, take, get_or, subst, arith, zero, suc}
+use Rattle.std.proofs.Common.{◌≡◌, ℕ, ◌+◌, ◌<◌, List, [], ◌∷◌, ◌++◌, length, take, get_or, subst, arith, zero, suc}
 use Rattle.std.specs.List.{AllByRecursion}
 
 module _ {X : Type 0} (P : X → Type 0) where
@@ -10,3 +10,11 @@ module _ {X : Type 0} (P : X → Type 0) where
 
   pub all_next : (xs : List X) (i : ℕ) (x : X) → i < length xs → x ≡ get_or xs i x → AllByRecursion P (take i xs) → P x → AllByRecursion P (take (i + 1) xs)
   all_next xs i x within is all p = subst (λ (n : ℕ). AllByRecursion P (take n xs)) (let same : suc i ≡ i + 1 = omega arith in same) (all_more xs i x within is all p)
+
+  pub all_but_last : (xs : List X) (x : X) → AllByRecursion P (xs ++ x ∷ []) → AllByRecursion P xs × P x
+  all_but_last [] x all = (tt, all.0)
+  all_but_last (y ∷ ys) x all = let rest : AllByRecursion P ys × P x = all_but_last ys x all.1 in ((all.0, rest.0), rest.1)
+
+  pub all_and_last : (xs : List X) (x : X) → AllByRecursion P xs → P x → AllByRecursion P (xs ++ x ∷ [])
+  all_and_last [] x all p = (p, tt)
+  all_and_last (y ∷ ys) x all p = (all.0, all_and_last ys x all.1 p)
