@@ -129,6 +129,22 @@ all_from n snap m (w ∷ ws) es sorted rising alike fits flows =
     all_from n snap m ws (installed key_cmp (n + 1) w.0 w.1 es) (sorted_installed key_cmp key_cmp-total (n + 1) w.0 w.1 es sorted) (second _ _ rising)
     (rest_alike (n + 1) m w ws es sorted (first _ _ rising) alike.1) fits.1 flows.1)
 
+-- ---- the loop over the writes, whose rest is tested against P
+
+pub more_added : (j snap : ℕ) (w : Pair) (all rest : List Pair) (es new : VS) (P : Type 0) → all ≡ w ∷ rest → new ≡ installed key_cmp j w.0 w.1 es
+    → MayStand j snap w es → (MayAllStand j snap all es ↔ P) → MayAllStand j snap rest new ↔ P
+more_added j snap w all rest es new P is made may so = (
+  λ left. so.0 (subst (λ ws. MayAllStand j snap ws es) (sym is) (may, subst (MayAllStand j snap rest) made left)),
+  λ p. subst (MayAllStand j snap rest) (sym made) (subst (λ ws. MayAllStand j snap ws es) is (so.1 p)).1,
+)
+
+pub not_added : (j snap : ℕ) (w : Pair) (all rest : List Pair) (es : VS) (P : Type 0) (b : Bool) → all ≡ w ∷ rest → (IsTrue b ↔ MayStand j snap w es) → b ≡ false
+    → (MayAllStand j snap all es ↔ P) → IsTrue false ↔ P
+not_added j snap w all rest es P b is may fails so = (λ a. absurd cc, λ p. sym fails ∙ may.1 (subst (λ ws. MayAllStand j snap ws es) is (so.1 p)).0)
+
+pub all_added : (j snap : ℕ) (all : List Pair) (es : VS) (P : Type 0) → all ≡ [] → (MayAllStand j snap all es ↔ P) → IsTrue true ↔ P
+all_added j snap all es P is so = (λ t. so.0 (subst (λ ws. MayAllStand j snap ws es) (sym is) tt), λ p. refl)
+
 -- past the history's end the map stays
 map_past : (es : VS) (h : List Entry) → StandFor es h 0 → as_of (length h + 1) es ≡ as_of (length h) es
 map_past es h stand =

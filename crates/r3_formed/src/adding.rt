@@ -203,7 +203,8 @@ fn add_parts(
     if !are_read_back(alloc, chains, snap, reads)? {
         return Ok(false);
     }
-    add_writes(chains, count + 1, snap, writes)
+    let may = add_writes(chains, count + 1, snap, writes)?;
+    Ok(may)
 }
 
 // Whether the entry keeps the rules that speak of numbers alone.

@@ -155,15 +155,12 @@ fn load_kept(
 }
 
 // Keeps the number and the text of a Program entry, and nothing of another one.
-fn keep_text(texts: &mut Vec<(u32, String)>, number: u32, act: Act) -> Result<(), EntryFault>
+fn keep_text(texts: &mut Vec<(u32, String)>, number: u32, act: Act) -> Result<(), Memory>
     ensures { OnOk result (map text_of texts.new.items
         ≡ map text_of texts.old.items ++ text_at number act) }
-    ensures memory { result ≡ Err EntryFault.NotEntry → ⊥ }
 {
     if let Some(text) = text_of_act(act) {
-        if texts.push((number, text)).is_err() {
-            return Err(EntryFault::Memory);
-        }
+        texts.push((number, text))?;
     }
     Ok(())
 }
@@ -191,7 +188,10 @@ fn load_moved(
         Err(fault) => return Err(fault),
     };
     formed_goes_on();
-    keep_text(&mut loaded.texts, count + 1, act)
+    match keep_text(&mut loaded.texts, count + 1, act) {
+        Ok(()) => Ok(()),
+        Err(_) => Err(EntryFault::Memory),
+    }
 }
 
 // The one or the other.
