@@ -154,6 +154,10 @@ map_past es h stand =
 
 -- ---- the whole entry
 
+pub truth : (b : Bool) → IsTrue b → T b
+truth true yes = tt
+truth false yes = absurd cc
+
 abbrev pub ReadsAre : VS → Entry → Type 0
 ReadsAre es e = AllByRecursion (λ r. r ≡ look_in (as_of e.snap es) r) e.reads
 

@@ -125,6 +125,13 @@ pub fn put_text(texts: &mut Vec<(u32, String)>, number: u32, act: Act)
     }
 }
 
+fn keep_entry(entries: &mut Vec<Entry>, entry: Entry) -> Result<(), Memory>
+    ensures { OnOk result (entries.new.items ≡ entries.old.items ++ entry ∷ []) }
+{
+    entries.push(entry)?;
+    Ok(())
+}
+
 // One payload more, whose entry is kept.
 fn load_kept(
     alloc: Global,
@@ -148,7 +155,7 @@ fn load_kept(
         Err(fault) => return Err(fault),
     };
     formed_goes_on();
-    match loaded.entries.push(entry) {
+    match keep_entry(&mut loaded.entries, entry) {
         Ok(()) => Ok(()),
         Err(_) => Err(EntryFault::Memory),
     }

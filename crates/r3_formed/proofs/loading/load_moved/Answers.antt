@@ -1,5 +1,6 @@
 use Rattle.std.proofs.Common.{◌≡◌, ◌+◌, ◌++◌, ◌∷◌, [], Err, length, map, ap, ◌∙◌, arith, false}
 use Rattle.r3_entry.specs.Bytes.{entry}
+use Rattle.r3_entry.specs.declared.fault.EntryFault.TheVariants as misses
 use Rattle.r3_entry.specs.Limits.{IsEntry}
 use Rattle.r3_formed.specs.Answers.{text_at, text_of}
 use Rattle.r3_formed.proofs.LoadLaws.{last_all, follows_last, texts_more}
@@ -7,7 +8,8 @@ use Rattle.r3_formed.proofs.loading.load_moved.Goals as goal
 
 pub returns-in-Err-clause-unformed : goal.returns-in-Err-clause-unformed
 returns-in-Err-clause-unformed c = λ h same stand is e bytes formed.
-    c.in-Err.ensures.unformed h same stand is e bytes (last_all IsEntry h e formed.limits) (follows_last h e formed)
+    let fault : c.in-Err.fault ≡ misses.NotEntry = cc in
+    c.in-Err.ensures.unformed h same stand (ap Err fault) e bytes (last_all IsEntry h e formed.limits) (follows_last h e formed)
 
 pub returns-in-Ok-keep_text-clause-ok : goal.returns-in-Ok-keep_text-clause-ok
 returns-in-Ok-keep_text-clause-ok c = λ h same loads room.
