@@ -18,7 +18,7 @@ use Rattle.r3_entry.specs.declared.entry.Entry.{Entry}
 use Rattle.r3_entry.specs.History.{Map, Write, map_at, after_entry}
 use Rattle.r3_entry.specs.Formed.{Follows, IsProgramFirst, IsOfKind, IsFlowRow}
 use Rattle.r3_chain.specs.Versions.{Versions, versions_of, installed, as_of, IsNext}
-use Rattle.r3_chain.specs.VersionLaws.{both, lower_below, as_of-installed, sorted_installed}
+use Rattle.r3_chain.specs.VersionLaws.{lower_below, as_of-installed, sorted_installed}
 use Rattle.r3_formed.specs.Past.{StandFor, all_installed}
 use Rattle.r3_formed.specs.Rules.{version_in, cell_in, look_in, IsWriteIn, HasFlow, FitsBehind}
 use Rattle.r3_formed.specs.Adding.{AreNext, MayStand, MayAllStand, IsWithin}
@@ -81,7 +81,7 @@ flow_same j (User table key, c) ws es sorted rising = (λ x. tt, λ x. tt)
 flow_same j (Flow id, c) ws es sorted rising = (λ x. tt, λ x. tt)
 flow_same j (Step id n, c) ws es sorted rising =
     let above : T (below_all key_cmp (Flow id) ((Step id n, c) ∷ ws)) =
-    both _ _ tt (lower_below key_cmp key_cmp-total (Flow id) (Step id n) ws refl (first _ _ rising)) in
+    lower_below key_cmp key_cmp-total (Flow id) (Step id n) ws refl (first _ _ rising) in
     let same : find key_cmp (Flow id) (as_of j (all_installed j ((Step id n, c) ∷ ws) es)) ≡ find key_cmp (Flow id) (as_of j es) =
     below_stays j (Flow id) ((Step id n, c) ∷ ws) es sorted above in
     (subst (λ (f : Option Write). IsSome (option_and_then (λ w. w.1) f)) (sym same), subst (λ (f : Option Write). IsSome (option_and_then (λ w. w.1) f)) same)
@@ -138,13 +138,6 @@ more_added j snap w all rest es new P is made may so = (
   λ p. subst (MayAllStand j snap rest) (sym made) (subst (λ ws. MayAllStand j snap ws es) is (so.1 p)).1,
 )
 
-pub not_added : (j snap : ℕ) (w : Pair) (all rest : List Pair) (es : VS) (P : Type 0) (b : Bool) → all ≡ w ∷ rest → (IsTrue b ↔ MayStand j snap w es) → b ≡ false
-    → (MayAllStand j snap all es ↔ P) → IsTrue false ↔ P
-not_added j snap w all rest es P b is may fails so = (λ a. absurd cc, λ p. sym fails ∙ may.1 (subst (λ ws. MayAllStand j snap ws es) is (so.1 p)).0)
-
-pub all_added : (j snap : ℕ) (all : List Pair) (es : VS) (P : Type 0) → all ≡ [] → (MayAllStand j snap all es ↔ P) → IsTrue true ↔ P
-all_added j snap all es P is so = (λ t. so.0 (subst (λ ws. MayAllStand j snap ws es) (sym is) tt), λ p. refl)
-
 -- past the history's end the map stays
 map_past : (es : VS) (h : List Entry) → StandFor es h 0 → as_of (length h + 1) es ≡ as_of (length h) es
 map_past es h stand =
@@ -155,8 +148,7 @@ map_past es h stand =
 -- ---- the whole entry
 
 pub truth : (b : Bool) → IsTrue b → T b
-truth true yes = tt
-truth false yes = absurd cc
+truth b holds = subst T (sym holds) tt
 
 abbrev pub ReadsAre : VS → Entry → Type 0
 ReadsAre es e = AllByRecursion (λ r. r ≡ look_in (as_of e.snap es) r) e.reads
