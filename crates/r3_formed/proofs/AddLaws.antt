@@ -48,11 +48,14 @@ rest_next j w (v ∷ vs) es b n =
     (subst (AllByRecursion (λ x. x.0 < j)) (sym (keeps_versions w.0 v.0 j w.1 es (less_of _ (first _ _ b)))) n.0, rest_next j w vs es (second _ _ b) n.1)
 
 pub one_next : (j : ℕ) (w : Pair) (ws : List Pair) (es : VS) → AreNext j (w ∷ ws) es → IsNext key_cmp j w.0 es × AreNext j ws (installed key_cmp j w.0 w.1 es)
-one_next j w ws es next = (next.next.0, record {
-  versions = sorted_installed key_cmp key_cmp-total j w.0 w.1 es next.versions;
-  sorted = second _ _ next.sorted;
-  next = rest_next j w ws es (first _ _ next.sorted) next.next.1;
-})
+one_next j w ws es next = (
+  next.next.0,
+  record {
+    versions = sorted_installed key_cmp key_cmp-total j w.0 w.1 es next.versions;
+    sorted = second _ _ next.sorted;
+    next = rest_next j w ws es (first _ _ next.sorted) next.next.1;
+  },
+)
 
 -- ---- what another key holds
 
@@ -95,9 +98,10 @@ AreAlike j m ws es = AllByRecursion (λ w. version_in (as_of j es) w.0 ≡ versi
 rest_alike : (j : ℕ) (m : Map) (w : Pair) (ws : List Pair) (es : VS) → T (is_sorted key_cmp es) → T (below_all key_cmp w.0 ws) → AreAlike j m ws es
     → AreAlike j m ws (installed key_cmp j w.0 w.1 es)
 rest_alike j m w [] es sorted b alike = tt
-rest_alike j m w (v ∷ vs) es sorted b alike =
-    (ap (λ (f : Option Write). option_map_or (λ x. x.0) f 0) (other j v.0 w es sorted (ap is_eq (apart w.0 v.0 (less_of _ (first _ _ b))))) ∙ alike.0,
-    rest_alike j m w vs es sorted (second _ _ b) alike.1)
+rest_alike j m w (v ∷ vs) es sorted b alike = (
+  ap (λ (f : Option Write). option_map_or (λ x. x.0) f 0) (other j v.0 w es sorted (ap is_eq (apart w.0 v.0 (less_of _ (first _ _ b))))) ∙ alike.0,
+  rest_alike j m w vs es sorted (second _ _ b) alike.1,
+)
 
 all_alike : (j : ℕ) (m : Map) (ws : List Pair) (es : VS) → as_of j es ≡ m → AreAlike j m ws es
 all_alike j m [] es same = tt
@@ -124,10 +128,11 @@ all_from : (n snap : ℕ) (m : Map) (ws : List Pair) (es : VS) → T (is_sorted 
 all_from n snap m [] es sorted rising alike fits flows = tt
 all_from n snap m (w ∷ ws) es sorted rising alike fits flows =
     let v : version_in (as_of (n + 1) es) w.0 ≡ version_in m w.0 = alike.0 in
-    let one : IsWriteIn m n snap w = fits.0 in
-    ((one.0, one.3, (flow_same (n + 1) w ws es sorted rising).1 flows.0, subst (λ (k : ℕ). k ≤ snap) (sym v) one.1, subst (λ (k : ℕ). kind w.0 ≡ 2 → k ≡ 0) (sym v) one.2),
-    all_from n snap m ws (installed key_cmp (n + 1) w.0 w.1 es) (sorted_installed key_cmp key_cmp-total (n + 1) w.0 w.1 es sorted) (second _ _ rising)
-    (rest_alike (n + 1) m w ws es sorted (first _ _ rising) alike.1) fits.1 flows.1)
+    let one : IsWriteIn m n snap w = fits.0 in (
+      (one.0, one.3, (flow_same (n + 1) w ws es sorted rising).1 flows.0, subst (λ (k : ℕ). k ≤ snap) (sym v) one.1, subst (λ (k : ℕ). kind w.0 ≡ 2 → k ≡ 0) (sym v) one.2),
+      all_from n snap m ws (installed key_cmp (n + 1) w.0 w.1 es) (sorted_installed key_cmp key_cmp-total (n + 1) w.0 w.1 es sorted) (second _ _ rising)
+          (rest_alike (n + 1) m w ws es sorted (first _ _ rising) alike.1) fits.1 flows.1,
+    )
 
 -- ---- the loop over the writes, whose rest is tested against P
 
@@ -166,7 +171,8 @@ moved es h e n known may same stand rising k m =
           all_to n e.snap (as_of n es) e.writes es stand.sorted rising alike q.1 in
           follows_with es h e n same stand p.0 (p.1.0, q.0, all.0, p.1.1, p.1.2) all.1,
       λ follows.
-          let fits : FitsBehind es n e = subst (λ (i : ℕ). FitsBehind es i e) (sym same) (fits_by es h e stand follows) in
-          (k.1 (follows.program, (fits.0, fits.3, fits.4)),
-          m.1 (fits.1, all_from n e.snap (as_of n es) e.writes es stand.sorted rising alike fits.2 (flows_by es h e n same stand follows))),
+          let fits : FitsBehind es n e = subst (λ (i : ℕ). FitsBehind es i e) (sym same) (fits_by es h e stand follows) in (
+            k.1 (follows.program, (fits.0, fits.3, fits.4)),
+            m.1 (fits.1, all_from n e.snap (as_of n es) e.writes es stand.sorted rising alike fits.2 (flows_by es h e n same stand follows)),
+          ),
     )
