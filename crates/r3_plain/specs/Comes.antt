@@ -2,6 +2,8 @@
 use Rattle.std.specs.Prelude.{◌≡◌, ℕ, ◌≤◌, List, length, Option, Some, None}
 use Rattle.r3_value.specs.declared.value.Outcome.{Outcome}
 use Rattle.r3_rows.specs.declared.rows.FlowRow.{FlowRow}
+use Rattle.r3_entry.specs.declared.entry.Act.{Act}
+use Rattle.r3_entry.specs.declared.entry.Act.TheVariants as acts
 use Rattle.r3_entry.specs.declared.entry.Entry.{Entry}
 use Rattle.fn_tree.specs.declared.flow.FlowEnd.TheVariants.{Asks}
 use Rattle.fn_tree.specs.declared.flow.Request.{Request}
@@ -14,9 +16,9 @@ use Rattle.r3_plain.specs.declared.given.Turned.{Turned}
 use Rattle.r3_plain.specs.Words as words
 
 -- it comes to this, and makes these calls
-pub record ComesTo (t : Turned) (g : machine.Given) (calls : List Call) : Type 0 where
+pub record ComesTo (t : Turned) (g : machine.Given) (made : List Call) : Type 0 where
   pub given : words.given_of t.given ≡ g
-  pub calls : words.calls_of t.call ≡ calls
+  pub calls : words.calls_of t.call ≡ made
 
 -- the event in this state, with its answer of the outside
 abbrev pub Happens : Language → State → Event → Option Outcome → Turned → Type 0
@@ -35,3 +37,10 @@ IsWithin h snap = (s : ℕ) → snap ≡ Some s → s ≤ length h
 abbrev pub closed_by : Option Text → Begun → Begun
 closed_by None begun = begun
 closed_by (Some id) begun = closed id begun
+
+-- the workflow whose snapshot an act closes
+abbrev pub closing : Act → Option Text
+closing (acts.Txn id n args) = Some id
+closing (acts.Cancel id) = Some id
+closing (acts.Recover id) = Some id
+closing act = None

@@ -1,6 +1,6 @@
-pub mod DerivedOrder
 pub mod Words
 pub mod Flows
 pub mod Kept
 pub mod Comes
 pub mod Done
+pub mod Cases

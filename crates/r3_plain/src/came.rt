@@ -1,15 +1,15 @@
 //! What an event comes to is done.
 
-ghost use Rattle.std.specs.Prelude.{◌≡◌, ◌≤◌, ◌<◌, ◌^◌, ◌×◌, ◌++◌, ◌∷◌, [], None, length, IfOk, OnOk, OnErr};
+ghost use Rattle.std.specs.Prelude.{◌≡◌, ◌≤◌, ◌<◌, ◌^◌, ◌++◌, ◌∷◌, [], None, length, IfOk, OnOk, OnErr};
 ghost use Rattle.std.specs.Option.{option_map};
 ghost use Rattle.r3_entry.specs.declared.entry.Entry.{Entry as E};
 ghost use Rattle.r3_entry.specs.Bytes as spell;
 ghost use Rattle.r3_entry.specs.Formed.{IsFormed};
 ghost use Rattle.r3_entry.specs.Limits.{IsEntry};
-ghost use Rattle.r3_model.specs.Event as event;
+ghost use Rattle.r3_model.specs.Event as machine_event;
 ghost use Rattle.r3_model.specs.Given as machine_given;
 ghost use Rattle.r3_model.specs.Machine as machine;
-ghost use Rattle.r3_plain.specs.Comes.{closed_by};
+ghost use Rattle.r3_plain.specs.Comes.{closed_by, closing};
 ghost use Rattle.r3_plain.specs.Words.{event_of, given_of, reply_of, state_of};
 
 use crate::event::Event;
@@ -35,7 +35,7 @@ fn let_go_reply(reply: Reply) {
 
 // The workflow whose snapshot an act closes.
 fn closing(act: &Act) -> Result<Option<Txt>, Memory>
-    ensures { IfOk result (λ id. (begun : machine.Begun) → closed_by id begun ≡ machine.after_act act.now begun) }
+    ensures { IfOk result (λ id. id ≡ closing act.now) }
 {
     match act {
         Act::Txn { id, .. } => Ok(Some(id.copy()?)),
@@ -131,7 +131,7 @@ fn noted(
     id: &str,
     reply: &Reply,
 ) -> Result<(), Memory>
-    ensures ok { OnOk result (begun.new.entries ≡ machine.after_reply (event.Turn id.now) (reply_of reply.now) begun.old.entries) }
+    ensures ok { OnOk result (begun.new.entries ≡ machine.after_reply (machine_event.Turn id.now) (reply_of reply.now) begun.old.entries) }
     ensures err { OnErr result (begun.new.entries ≡ begun.old.entries) }
 {
     match reply {
@@ -190,7 +190,7 @@ pub fn came(
     given: Given,
 ) -> Result<Reply, Memory>
     requires formed { IsFormed (state_of state.old).history }
-    requires limits { (e : E) (r : event.Reply) → given_of given ≡ machine_given.Enters e r → length (state_of state.old).history < 1000000 →
+    requires limits { (e : E) (r : machine_event.Reply) → given_of given ≡ machine_given.Enters e r → length (state_of state.old).history < 1000000 →
         IsEntry e × (length (spell.entry e) ≤ 2 ^ 23) }
     ensures came { IfOk result (λ r. machine.came (state_of state.old) (event_of event.now) (given_of given) ≡ (state_of state.new, reply_of r)) }
     ensures err { OnErr result (state_of state.new ≡ state_of state.old) }

@@ -21,7 +21,7 @@ mod room;
 mod rows;
 mod snapshots;
 mod state;
-mod step;
+mod stepping;
 mod turn;
 mod turned;
 mod txns;
@@ -31,7 +31,5 @@ pub use event::Event;
 pub use flows::pending;
 pub use reply::{Call, Limit, Out, Reply};
 pub use state::State;
-pub use step::step;
+pub use stepping::step;
 
-#[cfg(test)]
-mod cases;

@@ -1,6 +1,6 @@
 //! Whether there is room for one more entry.
 
-ghost use Rattle.std.specs.Prelude.{◌≡◌, ◌≤◌, ◌<◌, ◌^◌, ◌×◌, length, IfOk};
+ghost use Rattle.std.specs.Prelude.{◌≡◌, ◌≤◌, ◌<◌, ◌^◌, length, IfOk};
 ghost use Rattle.std.specs.Option.{option_map};
 ghost use Rattle.r3_entry.specs.Bytes as spell;
 ghost use Rattle.r3_entry.specs.Formed.{IsFormed};

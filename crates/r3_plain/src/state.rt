@@ -13,13 +13,18 @@ pub struct State {
 }
 
 impl State {
-    ghost use Rattle.std.specs.Prelude.{◌≡◌, [], length};
+    ghost use Rattle.std.specs.Prelude.{◌≡◌};
+    ghost use Rattle.r3_entry.specs.Formed.{IsFormed};
+    ghost use Rattle.r3_model.specs.Language.{Language};
     ghost use Rattle.r3_model.specs.Run.{empty, restarted};
+    ghost use Rattle.r3_model.specs.Valid.{AreOpen};
     ghost use Rattle.r3_plain.specs.Words.{state_of};
 
     /// No entries, and no open snapshots.
     pub fn new(alloc: Global) -> State
-        ensures { state_of result ≡ empty }
+        ensures state { state_of result ≡ empty }
+        ensures formed { IsFormed (state_of result).history }
+        ensures snapshots { (language : Language) → AreOpen language (state_of result) }
     {
         State {
             history: Vec::new(alloc),
@@ -35,13 +40,10 @@ impl State {
     }
 
     /// A restart keeps the history alone.
-    pub fn restarted(self, alloc: Global) -> State
-        ensures { state_of result ≡ restarted (state_of self).history }
+    pub fn restart(&mut self, alloc: Global)
+        ensures state { state_of self.new ≡ restarted (state_of self.old).history }
+        ensures snapshots { (language : Language) → AreOpen language (state_of self.new) }
     {
-        let State { history, begun: _ } = self;
-        State {
-            history,
-            begun: BTreeMap::new(alloc),
-        }
+        self.begun = BTreeMap::new(alloc);
     }
 }

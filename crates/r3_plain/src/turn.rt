@@ -56,7 +56,7 @@ fn counted<L: Ledger>(
 }
 
 /// What a turn of a workflow comes to, with the answer of the outside, should it be asked.
-pub fn turned(
+pub fn turn_of(
     alloc: Global,
     program: &Checked,
     state: &State,

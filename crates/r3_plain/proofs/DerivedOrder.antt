@@ -5,7 +5,7 @@ use Rattle.r3_rows.specs.declared.rows.Key.{Key}
 use Rattle.r3_rows.specs.Keys.{key_cmp}
 use Rattle.r3_rows.specs.contracts.rows.KeyOrd.TheImpl as derived
 
-pub same_order : (a b : Key) → derived.cmp-value.it a b ≡ key_cmp a b
+same_order : (a b : Key) → derived.cmp-value.it a b ≡ key_cmp a b
 same_order a b = search rules
 
 pub same_cmp : derived.cmp-value.it ≡ key_cmp

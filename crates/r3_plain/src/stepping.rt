@@ -1,11 +1,11 @@
 //! One step.
 
-ghost use Rattle.std.specs.Prelude.{◌≡◌, ◌≢◌, ◌+◌, [], List, Option, length, IfOk, OnErr};
+ghost use Rattle.std.specs.Prelude.{◌≡◌, ◌+◌, List, Option, length, IfOk, OnErr};
 ghost use Rattle.r3_value.specs.declared.value.Outcome.{Outcome as O};
 ghost use Rattle.r3_entry.specs.declared.entry.Entry.{Entry as E};
 ghost use Rattle.r3_entry.specs.Formed.{IsFormed};
 ghost use Rattle.r3_model.specs.Acts as acts;
-ghost use Rattle.r3_model.specs.Event as event;
+ghost use Rattle.r3_model.specs.Event as machine_event;
 ghost use Rattle.r3_model.specs.Fits.{Fits};
 ghost use Rattle.r3_model.specs.Functions.{language_of};
 ghost use Rattle.r3_model.specs.Given.{Enters};
@@ -26,11 +26,11 @@ use crate::looks::{got, shown};
 use crate::past::Kept;
 use crate::reply::{Call, Out, Reply};
 use crate::state::State;
-use crate::turn::turned;
+use crate::turn::turn_of;
 use fn_tree::checked::Checked;
 use r3_acts::program_entry;
 use r3_entry::ProgramText;
-use r3_laws::{enters_what_follows, keeps_open, programs_are_lawful, programs_are_limited};
+use r3_laws::{enters_what_follows, keeps_open, keeps_valid, programs_are_lawful, programs_are_limited};
 use r3_past::Past;
 use r3_value::{Memory, Outcome};
 use std::alloc::Global;
@@ -39,7 +39,7 @@ use std::alloc::Global;
 fn appended(alloc: Global, past: &Kept<'_>, text: &ProgramText) -> Result<Given, Memory>
     requires stands { (h : List E) × Stands past.now h }
     ensures { IfOk result (λ g. (h : List E) → Stands past.now h →
-        given_of g ≡ Enters (acts.program_entry h text.now) (event.Entry (length h + 1))) }
+        given_of g ≡ Enters (acts.program_entry h text.now) (machine_event.Entry (length h + 1))) }
 {
     let text = text.copy()?;
     let entry = program_entry(alloc, past.count(), text);
@@ -86,7 +86,7 @@ fn happens(
 }
 
 // What an event comes to.
-fn given(
+fn what_comes(
     alloc: Global,
     program: &Checked,
     state: &State,
@@ -98,7 +98,7 @@ fn given(
     ensures { IfOk result (Happens (language_of program.now) (state_of state.now) (event_of event.now) answer.now) }
 {
     match event {
-        Event::Turn { id } => turned(alloc, program, state, id.as_str(), answer),
+        Event::Turn { id } => turn_of(alloc, program, state, id.as_str(), answer),
         _ => happens(alloc, program, state, event),
     }
 }
@@ -127,7 +127,7 @@ fn stepped(
     enters_what_follows();
     program.holds_values();
     program.program();
-    let Turned { given, call } = given(alloc, program, state, event, answer)?;
+    let Turned { given, call } = what_comes(alloc, program, state, event, answer)?;
     match came(alloc, state, event, given) {
         Ok(reply) => Ok(Out { reply, call }),
         Err(_) => {
@@ -155,15 +155,19 @@ pub fn step(
     ensures step { IfOk result (λ out. machine.step (language_of program.now) (state_of state.old) (event_of event.now) answers.now ≡ out_of state.new out) }
     ensures formed { IsFormed (state_of state.new).history }
     ensures snapshots { AreOpen (language_of program.now) (state_of state.new) }
-    ensures begins { (state_of state.old).history ≢ [] → (state_of state.new).history ≢ [] }
+    ensures valid { IsValid (language_of program.now) (state_of state.old) → IsValid (language_of program.now) (state_of state.new) }
     ensures memory { OnErr result (state_of state.new ≡ state_of state.old) }
 {
     keeps_open();
+    keeps_valid();
     let answer = first_of(answers)?;
     is_answer(&answer);
     programs_are_lawful();
     programs_are_limited();
     program.holds_values();
     program.program();
-    stepped(alloc, program, state, event, &answer)
+    match stepped(alloc, program, state, event, &answer) {
+        Ok(out) => Ok(out),
+        Err(fault) => Err(fault),
+    }
 }

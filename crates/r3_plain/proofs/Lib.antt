@@ -1,0 +1,6 @@
+mod DerivedOrder
+mod LastWrites
+mod RowLemmas
+mod Sorting
+mod Stepped
+mod Writers

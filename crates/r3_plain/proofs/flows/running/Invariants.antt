@@ -1,0 +1,7 @@
+use Rattle.std.proofs.Common.{◌≡◌, ◌++◌, map}
+use Rattle.std.specs.Prelude.{filter}
+use Rattle.r3_plain.specs.Flows.{flow_of, is_pending}
+use Rattle.r3_plain.proofs.flows.running.Given as goal
+
+abbrev pub invariant-flows : goal.invariant-flows
+invariant-flows l = filter is_pending (map flow_of l.fn.flows.items) ≡ map flow_of l.left.items ++ filter is_pending (map flow_of l.flow-iterator)
