@@ -1,6 +1,7 @@
 -- The last write of a key is found from the last entry on.
-use Rattle.std.proofs.Common.{◌≡◌, ℕ, ◌+◌, Bool, true, false, cond, ◌&&◌, List, [], ◌∷◌, Option, Some, None, refl, sym, ap, ◌∙◌}
+use Rattle.std.proofs.Common.{◌≡◌, ℕ, suc, zero, ◌+◌, Bool, true, false, cond, ◌&&◌, List, [], ◌∷◌, Option, Some, None, refl, sym, ap, ◌∙◌, subst, arith}
 use Rattle.std.specs.Prelude.{fold, slice_get}
+use Rattle.std.specs.List.{AllByRecursion}
 use Rattle.std.specs.Ordering.{eq_by_cmp, is_eq, is_lt}
 use Rattle.std.specs.FinMap.{find}
 use Rattle.std.specs.FinMap.Entries.{put, find-put, is_sorted, below_all}
@@ -11,7 +12,9 @@ use Rattle.r3_rows.specs.declared.rows.Cell.{Cell}
 use Rattle.r3_rows.specs.Keys.{key_cmp}
 use Rattle.r3_rows.specs.KeyOrder.{key_cmp-total}
 use Rattle.r3_entry.specs.declared.entry.Entry.{Entry}
+use Rattle.r3_entry.specs.Formed.{IsFormed}
 use Rattle.r3_entry.specs.History.{Write, Map, map_at}
+use Rattle.r3_entry.specs.Limits.{IsEntry}
 use Rattle.r3_entry.proofs.Append.{map_at-next}
 
 abbrev Writes : Type 0
@@ -62,3 +65,24 @@ find_over (w ∷ ws) m j q sorted =
 pub last_here : (h : List Entry) (k : ℕ) (e : Entry) (q : Key) → slice_get h k ≡ Some e → is_sorted key_cmp e.writes ≡ true
     → find key_cmp q (map_at h (k + 1)) ≡ over (find key_cmp q e.writes) (1 + k) (find key_cmp q (map_at h k))
 last_here h k e q at sorted = ap (λ (m : Map). find key_cmp q m) (map_at-next h k e at) ∙ find_over e.writes (map_at h k) (1 + k) q sorted
+
+-- ---- at the last of so many entries
+
+rising_at : (h : List Entry) (k : ℕ) (e : Entry) → AllByRecursion IsEntry h → slice_get h k ≡ Some e → is_sorted key_cmp e.writes ≡ true
+rising_at [] k e all at = absurd cc
+rising_at (x ∷ xs) zero e all at = let same : x ≡ e = cc in subst (λ (y : Entry). is_sorted key_cmp y.writes ≡ true) same all.0.rising
+rising_at (x ∷ xs) (suc k) e all at = rising_at xs k e all.1 at
+
+module _ (h : List Entry) (formed : IsFormed h) (j k : ℕ) (next : j ≡ k + 1) (e : Entry) (at : slice_get h k ≡ Some e) (q : Key) where
+  here : find key_cmp q (map_at h j) ≡ over (find key_cmp q e.writes) j (find key_cmp q (map_at h k))
+  here =
+      let same : j ≡ 1 + k = omega (arith, next) in
+      subst (λ (i : ℕ). find key_cmp q (map_at h i) ≡ over (find key_cmp q e.writes) j (find key_cmp q (map_at h k))) (sym next)
+      (subst (λ (i : ℕ). find key_cmp q (map_at h (k + 1)) ≡ over (find key_cmp q e.writes) i (find key_cmp q (map_at h k))) (sym same)
+      (last_here h k e q at (rising_at h k e formed.limits at)))
+
+  pub found_here : (c : Option Cell) → find key_cmp q e.writes ≡ Some c → find key_cmp q (map_at h j) ≡ Some (j, c)
+  found_here c found = here ∙ ap (λ (o : Option (Option Cell)). over o j (find key_cmp q (map_at h k))) found
+
+  pub passed_over : find key_cmp q e.writes ≡ None → find key_cmp q (map_at h j) ≡ find key_cmp q (map_at h k)
+  passed_over none = here ∙ ap (λ (o : Option (Option Cell)). over o j (find key_cmp q (map_at h k))) none

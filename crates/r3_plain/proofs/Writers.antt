@@ -1,5 +1,5 @@
 -- The first writer past a snapshot, from an entry on.
-use Rattle.std.proofs.Common.{◌≡◌, ℕ, ◌+◌, Bool, true, false, cond, ◌&&◌, nat_lt, List, [], ◌∷◌, Option, Some, None, refl, ap}
+use Rattle.std.proofs.Common.{◌≡◌, ℕ, suc, zero, ◌+◌, ◌<◌, Bool, true, false, cond, ◌&&◌, nat_lt, List, [], ◌∷◌, length, drop, get_or, Option, Some, sym, ap, arith}
 use Rattle.std.specs.Prelude.{find}
 use Rattle.std.specs.Option.{option_map}
 use Rattle.std.specs.List.{enumerate_from, list_any}
@@ -27,3 +27,13 @@ pub writer_later : (k s : ℕ) (is_such : Key → Bool) (e : Entry) (es : List E
 writer_later k s is_such e es is =
     ap (λ (b : Bool). option_map (λ (e : ℕ × Entry). e.0) (cond b (Some (k, e))
     (find (λ (e : ℕ × Entry). nat_lt s e.0 && list_any (λ (w : Key × Option Cell). is_such w.0) e.1.writes) (enumerate_from (k + 1) es)))) is
+
+-- the entry of this number stands past the snapshot, and wrote such a key
+abbrev pub writes_at : ℕ → ℕ → (Key → Bool) → Entry → Bool
+writes_at k s is_such e = nat_lt s k && list_any (λ (w : Key × Option Cell). is_such w.0) e.writes
+
+-- what is left from a place on begins with the one there
+pub drop_item : (h : List Entry) (i : ℕ) (e : Entry) → e ≡ get_or h i e → i < length h → drop i h ≡ e ∷ drop (i + 1) h
+drop_item [] i e is lt = absurd (omega (arith, lt))
+drop_item (x ∷ xs) zero e is lt = ap (λ (y : Entry). y ∷ xs) (sym is)
+drop_item (x ∷ xs) (suc i) e is lt = drop_item xs i e is (omega (arith, lt))

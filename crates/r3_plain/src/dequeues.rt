@@ -155,7 +155,8 @@ pub fn dequeued(
         None => Ok(Given::Answers(Reply::Refused(Refusal::UnknownQueue))),
         Some(queue) => {
             let flows = flows_now(alloc, past.history)?;
-            dequeued_from(alloc, past, flows, &queue)
+            let given = dequeued_from(alloc, past, flows, &queue)?;
+            Ok(given)
         }
     }
 }

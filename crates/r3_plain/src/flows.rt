@@ -1,6 +1,6 @@
 //! All workflows with their rows.
 
-ghost use Rattle.std.specs.Prelude.{◌≡◌, ◌≤◌, ◌++◌, ◌∷◌, [], List, length, map, filter, filter_map, IfOk, OnOk};
+ghost use Rattle.std.specs.Prelude.{◌≡◌, ◌≤◌, ◌<◌, nat_le, slice_get, Some, ◌++◌, ◌∷◌, [], List, length, map, filter, filter_map, IfOk, OnOk};
 ghost use Rattle.std.specs.List.{insert};
 ghost use Rattle.r3_rows.specs.declared.rows.FlowRow.{FlowRow as R};
 ghost use Rattle.sys_queue.specs.Rows as queues;
@@ -68,6 +68,20 @@ pub fn let_go(flow: Flow) {
 
 // ---- by the entries that started them
 
+fn flow_at(flows: &[Flow], at: usize) -> &Flow
+    requires { at < length flows.now }
+    ensures { slice_get flows.now at ≡ Some result.now }
+{
+    &flows[at]
+}
+
+// Whether the workflow started then or later.
+fn is_by(started: u32, flow: &Flow) -> bool
+    ensures { result ≡ nat_le started flow.now.row.started }
+{
+    started <= flow.row.started
+}
+
 // The place before the first that started then or later.
 fn place_of(sorted: &[Flow], started: u32) -> usize
     ensures within { result ≤ length sorted.now }
@@ -75,7 +89,8 @@ fn place_of(sorted: &[Flow], started: u32) -> usize
         machine.placed f (map flow_of sorted.now) ≡ insert (map flow_of sorted.now) result f }
 {
     'places: for i in 0..sorted.len() {
-        if started <= sorted[i].row.started {
+        let flow = flow_at(sorted, i);
+        if is_by(started, flow) {
             return i;
         }
     }

@@ -1,13 +1,12 @@
 //! Looks at a row.
 
-ghost use Rattle.std.specs.Prelude.{◌≡◌, List, length, IfOk, if◌then◌else◌};
+ghost use Rattle.std.specs.Prelude.{◌≡◌, List, length, IfOk};
 ghost use Rattle.r3_entry.specs.declared.entry.Entry.{Entry};
-ghost use Rattle.r3_model.specs.Event.{Refused};
-ghost use Rattle.sys_flow.specs.declared.command.Refusal.TheVariants.{UnknownTable};
 ghost use Rattle.r3_model.specs.Functions.{language_of};
 ghost use Rattle.r3_model.specs.Given.{Answers};
 ghost use Rattle.r3_model.specs.Machine as machine;
 ghost use Rattle.r3_model.specs.Rows.{flow_at, row_at};
+ghost use Rattle.r3_plain.specs.Done.{got_of};
 ghost use Rattle.r3_plain.specs.Kept.{Stands};
 ghost use Rattle.r3_plain.specs.Words.{given_of};
 
@@ -57,8 +56,7 @@ pub fn got(
     key: &str,
 ) -> Result<Given, Memory>
     requires stands { (h : List Entry) × Stands past.now h }
-    ensures { IfOk result (λ g. (h : List Entry) → Stands past.now h → given_of g
-        ≡ (if (language_of program.now).has_table table.now then Answers (machine.got (row_at h (length h) table.now key.now)) else Answers (Refused UnknownTable))) }
+    ensures { IfOk result (λ g. (h : List Entry) → Stands past.now h → given_of g ≡ got_of (language_of program.now) h table.now key.now) }
 {
     if has_table(program, table) {
         found(alloc, past, table, key)

@@ -6,6 +6,7 @@ ghost use Rattle.r3_rows.specs.Keys.{key_cmp};
 ghost use Rattle.r3_entry.specs.History.{after_entry, map_at, seen_in};
 
 use crate::order::{is_between, is_called};
+use crate::writes::entry_at;
 use r3_entry::Entry;
 use r3_rows::{Cell, Key};
 use r3_value::{Memory, Txt};
@@ -63,7 +64,8 @@ pub fn rows_at(alloc: Global, history: &[Entry], index: u32) -> Result<Vec<Row>,
 {
     let mut rows = BTreeMap::new(alloc);
     'entries: for i in 0..index {
-        put_writes(&mut rows, i + 1, &history[i as usize])?;
+        let entry = entry_at(history, i);
+        put_writes(&mut rows, i + 1, entry)?;
     }
     listed(alloc, rows)
 }

@@ -12,7 +12,7 @@ ghost use Rattle.r3_model.specs.Given.{Enters};
 ghost use Rattle.r3_model.specs.Machine as machine;
 ghost use Rattle.r3_model.specs.Valid.{AreOpen, IsValid};
 ghost use Rattle.r3_plain.specs.Comes.{Happens};
-ghost use Rattle.r3_plain.specs.Done.{IsDone, IsOther};
+ghost use Rattle.r3_plain.specs.Done.{IsDone, IsOther, got_of};
 ghost use Rattle.r3_plain.specs.Kept.{Stands};
 ghost use Rattle.r3_plain.specs.Words.{event_of, given_of, out_of, state_of};
 
@@ -34,6 +34,7 @@ use r3_laws::{enters_what_follows, keeps_open, keeps_valid, programs_are_lawful,
 use r3_past::Past;
 use r3_value::{Memory, Outcome};
 use std::alloc::Global;
+use sys_flow::Text;
 
 // The text of a program is appended.
 fn appended(alloc: Global, past: &Kept<'_>, text: &ProgramText) -> Result<Given, Memory>
@@ -47,6 +48,21 @@ fn appended(alloc: Global, past: &Kept<'_>, text: &ProgramText) -> Result<Given,
         entry,
         reply: Reply::Entry { number: next(past) },
     })
+}
+
+// A user's row is looked at.
+fn got_by(
+    alloc: Global,
+    program: &Checked,
+    past: &Kept<'_>,
+    table: &Text,
+    key: &Text,
+) -> Result<Given, Memory>
+    requires stands { (h : List E) × Stands past.now h }
+    ensures { IfOk result (λ g. (h : List E) → Stands past.now h → given_of g ≡ got_of (language_of program.now) h table.now key.now) }
+{
+    let given = got(alloc, program, past, table.as_str(), key.as_str())?;
+    Ok(given)
 }
 
 // What an event but a turn comes to.
@@ -64,7 +80,7 @@ fn done(
         Event::Run(command) => commanded(alloc, program, past, command),
         Event::Dequeue { queue } => dequeued(alloc, program, past, queue.as_str()),
         Event::ShowStatus { id } => shown(alloc, past, id.as_str()),
-        Event::GetRow { table, key } => got(alloc, program, past, table.as_str(), key.as_str()),
+        Event::GetRow { table, key } => got_by(alloc, program, past, table, key),
         Event::Turn { .. } => Ok(Given::Answers(Reply::Nil)),
         Event::Nothing => Ok(Given::Answers(Reply::Nil)),
     }

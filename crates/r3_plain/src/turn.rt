@@ -73,7 +73,7 @@ pub fn turn_of(
         Some(row) => {
             let id = text_of(alloc, id)?;
             let snap = snapshot_of(&state.begun, &id);
-            counted::<Brand>(
+            let turned = counted::<Brand>(
                 alloc,
                 program,
                 &past,
@@ -82,7 +82,8 @@ pub fn turn_of(
                 snap,
                 answer,
                 Blank::new(1),
-            )
+            )?;
+            Ok(turned)
         }
     }
 }

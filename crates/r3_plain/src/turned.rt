@@ -92,11 +92,12 @@ fn outside_turn(
         ComesTo t (machine.outside_turn language h id.now request.now answer.now) (call_with language h id.now answer.now (Some request.now))) }
 {
     let given = recorded(alloc, past, id, request, answer)?;
-    with_call(id, request, answer, given)
+    let turned = with_call(id, request, answer, given)?;
+    Ok(turned)
 }
 
 // A child is asked for.
-fn child_turn(
+fn child_given(
     alloc: Global,
     past: &Kept<'_>,
     id: &Txt,
@@ -113,8 +114,22 @@ fn child_turn(
     })
 }
 
+fn child_turn(
+    alloc: Global,
+    past: &Kept<'_>,
+    id: &Txt,
+    request: &Request,
+) -> Result<Turned, Memory>
+    requires stands { (h : List E) × Stands past.now h }
+    ensures { IfOk result (λ t. (language : Language) (h : List E) → Stands past.now h →
+        ComesTo t (machine.child_or_id language h id.now request.now (children.child_id id.now request.now.n)) []) }
+{
+    let given = child_given(alloc, past, id, request)?;
+    Ok(quiet(given))
+}
+
 // Another is awaited.
-fn await_turn(
+fn await_given(
     alloc: Global,
     past: &Kept<'_>,
     id: &Txt,
@@ -132,6 +147,21 @@ fn await_turn(
             reply: Reply::Entry { number: next(past) },
         }),
     }
+}
+
+fn await_turn(
+    alloc: Global,
+    past: &Kept<'_>,
+    id: &Txt,
+    request: &Request,
+) -> Result<Turned, Memory>
+    requires stands { (h : List E) × Stands past.now h }
+    ensures { IfOk result (λ t. (language : Language) (h : List E) → Stands past.now h →
+        ComesTo t (machine.await_turn language h id.now request.now (machine.text_of request.now.args)
+        (awaits.awaited_of (machine.now language h id.now (machine.text_of request.now.args)))) []) }
+{
+    let given = await_given(alloc, past, id, request)?;
+    Ok(quiet(given))
 }
 
 fn let_go(given: Given) {
@@ -177,10 +207,22 @@ fn asked<L: Ledger>(
         (call_with (language_of program.now) h id.now answer.now (machine.asks_outside (language_of program.now) h id.now (FlowEnd.Asks request.now)))) }
 {
     match request.kind {
-        AskKind::Txn => Ok(quiet(txn_turn(alloc, program, past, id, request, snap, steps)?)),
-        AskKind::Outside => outside_turn(alloc, past, id, request, answer),
-        AskKind::Child => Ok(quiet(child_turn(alloc, past, id, request)?)),
-        AskKind::Await => Ok(quiet(await_turn(alloc, past, id, request)?)),
+        AskKind::Txn => {
+            let given = txn_turn(alloc, program, past, id, request, snap, steps)?;
+            Ok(quiet(given))
+        }
+        AskKind::Outside => {
+            let turned = outside_turn(alloc, past, id, request, answer)?;
+            Ok(turned)
+        }
+        AskKind::Child => {
+            let turned = child_turn(alloc, past, id, request)?;
+            Ok(turned)
+        }
+        AskKind::Await => {
+            let turned = await_turn(alloc, past, id, request)?;
+            Ok(turned)
+        }
     }
 }
 
@@ -201,6 +243,21 @@ fn finished(
         entry,
         reply: Reply::Entry { number: next(past) },
     })
+}
+
+fn finish_turn(
+    alloc: Global,
+    past: &Kept<'_>,
+    id: &Txt,
+    row: &FlowRow,
+    outcome: Outcome,
+) -> Result<Turned, Memory>
+    requires stands { (h : List E) × Stands past.now h }
+    ensures { IfOk result (λ t. (language : Language) (h : List E) → Stands past.now h →
+        ComesTo t (machine.ended language h id.now None None row.now (FlowEnd.Done outcome)) []) }
+{
+    let given = finished(alloc, past, id, row, outcome)?;
+    Ok(quiet(given))
 }
 
 // What it comes to that the function came so far.
@@ -224,8 +281,14 @@ fn ended<L: Ledger>(
         FlowEnd::Unexpected { n, recorded, asked } => {
             Ok(quiet(Given::Answers(Reply::Unexpects { n, recorded, asked })))
         }
-        FlowEnd::Done(outcome) => Ok(quiet(finished(alloc, past, id, row, outcome)?)),
-        FlowEnd::Asks(request) => asked(alloc, program, past, id, &request, snap, answer, steps),
+        FlowEnd::Done(outcome) => {
+            let turned = finish_turn(alloc, past, id, row, outcome)?;
+            Ok(turned)
+        }
+        FlowEnd::Asks(request) => {
+            let turned = asked(alloc, program, past, id, &request, snap, answer, steps)?;
+            Ok(turned)
+        }
     }
 }
 
@@ -247,7 +310,10 @@ pub fn turned_row<L: Ledger>(
         (call_with (language_of program.now) h id.now answer.now (machine.calls_row (language_of program.now) h id.now (Some row.now)))) }
 {
     match row.status {
-        Status::Pending => ended(alloc, program, past, id, row, snap, answer, steps),
+        Status::Pending => {
+            let turned = ended(alloc, program, past, id, row, snap, answer, steps)?;
+            Ok(turned)
+        }
         status => Ok(quiet(Given::Answers(Reply::NotPending(status)))),
     }
 }

@@ -81,6 +81,13 @@ fn writes_any(writes: &[(Key, Option<Cell>)], puts: &[(Txt, Txt, Option<Val>)]) 
     false
 }
 
+// Whether the entry of this number stands past the snapshot and wrote a key of those that the body wrote.
+fn writes_past(entry: &Entry, number: u32, snap: u32, run: &TxnRun) -> bool
+    ensures { result ≡ (nat_lt snap number && list_any (λ w. machine.conflict_keys run.now w.0) entry.now.writes) }
+{
+    snap < number && writes_any(entry.writes.list(), run.writes.as_slice())
+}
+
 // The first entry past the snapshot that wrote a key of those that the body wrote.
 fn writer_past(history: &[Entry], snap: u32, run: &TxnRun) -> Option<u32>
     requires { length history.now ≤ 1000000 }
@@ -89,7 +96,7 @@ fn writer_past(history: &[Entry], snap: u32, run: &TxnRun) -> Option<u32>
     let mut number = 0u32;
     'entries: for entry in history {
         number += 1;
-        if snap < number && writes_any(entry.writes.list(), run.writes.as_slice()) {
+        if writes_past(entry, number, snap, run) {
             return Some(number);
         }
     }
@@ -146,7 +153,8 @@ fn commit<L: Ledger>(
         ≡ machine.txn_turn (language_of program.now) h id.now (Some snap) request.now) }
 {
     let run = txn_run(alloc, past, program, request, snap, steps)?;
-    committed(alloc, past, id, request, snap, run)
+    let given = committed(alloc, past, id, request, snap, run)?;
+    Ok(given)
 }
 
 /// A transaction that is asked for: its snapshot is opened, or its body is run there.
@@ -167,6 +175,9 @@ pub fn txn_turn<L: Ledger>(
 {
     match snap {
         None => Ok(Given::Answers(Reply::Began { snap: past.count() })),
-        Some(snap) => commit(alloc, program, past, id, request, snap, steps),
+        Some(snap) => {
+            let given = commit(alloc, program, past, id, request, snap, steps)?;
+            Ok(given)
+        }
     }
 }

@@ -7,5 +7,6 @@ use Rattle.r3_plain.proofs.dequeues.waiting.Given as goal
 
 abbrev pub invariant-flows : goal.invariant-flows
 invariant-flows l =
-    filter (λ (f : Flow). is_waiting l.name f.row) (map flow_of l.fn.flows.items)
-    ≡ map flow_of l.left.items ++ filter (λ (f : Flow). is_waiting l.name f.row) (map flow_of l.flow-iterator)
+    (goal.iterator-flows).can_next l.flow-iterator × (goal.iterator-flows).is_finite l.flow-iterator
+    × (filter (λ (f : Flow). is_waiting l.name f.row) (map flow_of l.fn.flows.items)
+    ≡ map flow_of l.left.items ++ filter (λ (f : Flow). is_waiting l.name f.row) (map flow_of l.flow-iterator.rest.items))

@@ -14,5 +14,5 @@ came-requires-clause-limits c = λ e r is room.
 
 pub returns-in-Ok-clause-step : goal.returns-in-Ok-clause-step
 returns-in-Ok-clause-step c =
-    by_came (language_of c.args.program.now) (state_of c.args.state.now) (event_of c.args.event.now) c.args.answer.now (given_of c.in_ok-given.given)
+    by_came (language_of c.args.program.now) (state_of c.args.state.now) (event_of c.args.event.now) c.args.answer.now (given_of c.in_ok-given.field-0.given)
     _ _ _ c.in_ok-given.ensures.given c.in_ok-given.ensures.calls c.in-Ok.ensures.came

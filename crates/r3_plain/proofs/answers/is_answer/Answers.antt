@@ -1,0 +1,20 @@
+use Rattle.std.proofs.Common.{◌≡◌, List, ℕ, Option, Some, true, arith, sym, subst}
+use Rattle.std.specs.Prelude.{IsTrue}
+use Rattle.std.specs.Str.{is_utf8}
+use Rattle.std.proofs.lemmas.Str.{is_utf8-from_IsUtf8}
+use Rattle.r3_value.specs.declared.value.Outcome.{Outcome}
+use Rattle.r3_value.specs.declared.value.Outcome.TheVariants.{Failure}
+use Rattle.r3_entry.specs.Limits.{IfThere, IsOutcome, IsAnyText}
+use Rattle.r3_plain.proofs.answers.is_answer.Goals as goal
+
+pub returns-in-Some-Failure : goal.returns-in-Some-Failure
+returns-in-Some-Failure c =
+    let h : is_utf8 c.as_str.result.now ≡ true = is_utf8-from_IsUtf8 _ c.as_str.utf8 in
+    let u : IsTrue (is_utf8 c.as_str.result.now) = cc in
+    let text : IsAnyText c.in-Some-Failure.word.now = record {
+      long = omega arith;
+      short = c.as_str.ensures.short;
+      utf8 = subst (λ (s : List ℕ). IsTrue (is_utf8 s)) c.as_str.ensures.text u;
+    } in
+    let is : c.args.answer.now ≡ Some (Failure c.in-Some-Failure.word.now) = cc in
+    subst (λ (a : Option Outcome). IfThere IsOutcome a) (sym is) text
