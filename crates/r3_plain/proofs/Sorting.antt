@@ -1,5 +1,5 @@
 -- Workflows are placed one by one, from the last to the first.
-use Rattle.std.proofs.Common.{◌≡◌, ℕ, suc, zero, ◌+◌, Bool, true, false, nat_le, List, [], ◌∷◌, ◌++◌, map, take, drop, Some, refl, sym, ap, subst}
+use Rattle.std.proofs.Common.{◌≡◌, ℕ, suc, zero, add-one, ◌+◌, Bool, true, false, nat_le, List, [], ◌∷◌, ◌++◌, map, take, drop, Some, refl, sym, ap, subst}
 use Rattle.std.specs.Prelude.{if◌then◌else◌, slice_get}
 use Rattle.std.specs.List.{insert}
 use Rattle.r3_model.specs.Rows.{Flow, placed, by_start}
@@ -45,10 +45,16 @@ insert_here f (y ∷ ys) zero x at is =
     placed_here f (flow_of y) (map flow_of ys) (subst (λ (z : F). nat_le f.row.started z.row.started ≡ true) (sym same) is)
 insert_here f (y ∷ ys) (suc i) x at is = ap (λ (zs : List Flow). flow_of y ∷ zs) (insert_here f ys i x at is)
 
-pub insert_later : (f : Flow) (xs : List F) (i : ℕ) (x : F) → slice_get xs i ≡ Some x → nat_le f.row.started x.row.started ≡ false
-    → take i (map flow_of xs) ++ placed f (drop i (map flow_of xs)) ≡ take (i + 1) (map flow_of xs) ++ placed f (drop (i + 1) (map flow_of xs))
-insert_later f [] i x at is = absurd cc
-insert_later f (y ∷ ys) zero x at is =
+insert_past : (f : Flow) (xs : List F) (i : ℕ) (x : F) → slice_get xs i ≡ Some x → nat_le f.row.started x.row.started ≡ false
+    → take i (map flow_of xs) ++ placed f (drop i (map flow_of xs)) ≡ take (suc i) (map flow_of xs) ++ placed f (drop (suc i) (map flow_of xs))
+insert_past f [] i x at is = absurd cc
+insert_past f (y ∷ ys) zero x at is =
     let same : y ≡ x = cc in
     placed_later f (flow_of y) (map flow_of ys) (subst (λ (z : F). nat_le f.row.started z.row.started ≡ false) (sym same) is)
-insert_later f (y ∷ ys) (suc i) x at is = ap (λ (zs : List Flow). flow_of y ∷ zs) (insert_later f ys i x at is)
+insert_past f (y ∷ ys) (suc i) x at is = ap (λ (zs : List Flow). flow_of y ∷ zs) (insert_past f ys i x at is)
+
+pub insert_later : (f : Flow) (xs : List F) (i : ℕ) (x : F) → slice_get xs i ≡ Some x → nat_le f.row.started x.row.started ≡ false
+    → take i (map flow_of xs) ++ placed f (drop i (map flow_of xs)) ≡ take (i + 1) (map flow_of xs) ++ placed f (drop (i + 1) (map flow_of xs))
+insert_later f xs i x at is =
+    subst (λ (j : ℕ). take i (map flow_of xs) ++ placed f (drop i (map flow_of xs)) ≡ take j (map flow_of xs) ++ placed f (drop j (map flow_of xs))) (sym (add-one i))
+    (insert_past f xs i x at is)

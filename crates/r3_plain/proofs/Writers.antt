@@ -1,5 +1,5 @@
 -- The first writer past a snapshot, from an entry on.
-use Rattle.std.proofs.Common.{◌≡◌, ℕ, suc, zero, ◌+◌, ◌<◌, Bool, true, false, cond, ◌&&◌, nat_lt, List, [], ◌∷◌, length, drop, get_or, Option, Some, sym, ap, arith}
+use Rattle.std.proofs.Common.{◌≡◌, ℕ, suc, zero, add-one, ◌+◌, ◌<◌, Bool, true, false, cond, ◌&&◌, nat_lt, List, [], ◌∷◌, length, drop, get_or, Option, Some, sym, ap, subst, arith}
 use Rattle.std.specs.Prelude.{find}
 use Rattle.std.specs.Option.{option_map}
 use Rattle.std.specs.List.{enumerate_from, list_any}
@@ -32,8 +32,11 @@ writer_later k s is_such e es is =
 abbrev pub writes_at : ℕ → ℕ → (Key → Bool) → Entry → Bool
 writes_at k s is_such e = nat_lt s k && list_any (λ (w : Key × Option Cell). is_such w.0) e.writes
 
+drop_next : (h : List Entry) (i : ℕ) (e : Entry) → e ≡ get_or h i e → i < length h → drop i h ≡ e ∷ drop (suc i) h
+drop_next [] i e is lt = absurd (omega (arith, lt))
+drop_next (x ∷ xs) zero e is lt = ap (λ (y : Entry). y ∷ xs) (sym is)
+drop_next (x ∷ xs) (suc i) e is lt = drop_next xs i e is (omega (arith, lt))
+
 -- what is left from a place on begins with the one there
 pub drop_item : (h : List Entry) (i : ℕ) (e : Entry) → e ≡ get_or h i e → i < length h → drop i h ≡ e ∷ drop (i + 1) h
-drop_item [] i e is lt = absurd (omega (arith, lt))
-drop_item (x ∷ xs) zero e is lt = ap (λ (y : Entry). y ∷ xs) (sym is)
-drop_item (x ∷ xs) (suc i) e is lt = drop_item xs i e is (omega (arith, lt))
+drop_item h i e is lt = subst (λ (j : ℕ). drop i h ≡ e ∷ drop j h) (sym (add-one i)) (drop_next h i e is lt)

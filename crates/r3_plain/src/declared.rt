@@ -2,10 +2,11 @@
 
 ghost use Rattle.std.specs.Prelude.{◌≡◌, [], ◌∷◌, find, filter_map, bytes_eq, IfOk};
 ghost use Rattle.std.specs.Option.{option_map};
-ghost use Rattle.r3_model.specs.Functions.{queue_of};
+ghost use Rattle.r3_model.specs.Functions.{language_of, queue_of};
 ghost use Rattle.r3_model.specs.Language.{Queue};
 ghost use Rattle.r3_plain.specs.Flows.{declared_of};
 
+use fn_tree::checked::Checked;
 use fn_tree::program::Item;
 use r3_value::{Memory, Txt};
 
@@ -36,8 +37,8 @@ fn queue_by(item: &Item, called: &str) -> Result<Option<Declared>, Memory>
     }
 }
 
-/// The queue of that name.
-pub fn queue_in(items: &[Item], called: &str) -> Result<Option<Declared>, Memory>
+// The first queue of that name.
+fn queue_in(items: &[Item], called: &str) -> Result<Option<Declared>, Memory>
     ensures { IfOk result (λ q. option_map declared_of q ≡ find (λ (q : Queue). bytes_eq q.name called.now) (filter_map queue_of items.now)) }
 {
     'items: for item in items {
@@ -47,4 +48,11 @@ pub fn queue_in(items: &[Item], called: &str) -> Result<Option<Declared>, Memory
         }
     }
     Ok(None)
+}
+
+/// The queue of that name.
+pub fn queue_called(program: &Checked, called: &str) -> Result<Option<Declared>, Memory>
+    ensures { IfOk result (λ q. option_map declared_of q ≡ find (λ (q : Queue). bytes_eq q.name called.now) (language_of program.now).queues) }
+{
+    queue_in(&program.program().items, called)
 }

@@ -1,6 +1,6 @@
 //! What a dequeue comes to.
 
-ghost use Rattle.std.specs.Prelude.{◌≡◌, ◌+◌, List, length, map, filter, IfOk};
+ghost use Rattle.std.specs.Prelude.{◌≡◌, ◌+◌, ◌++◌, ◌∷◌, [], List, length, map, filter, IfOk, OnOk};
 ghost use Rattle.r3_entry.specs.declared.entry.Entry.{Entry};
 ghost use Rattle.sys_queue.specs.Rows as rule;
 ghost use Rattle.r3_model.specs.Acts as acts;
@@ -14,7 +14,7 @@ ghost use Rattle.r3_plain.specs.Kept.{Stands};
 ghost use Rattle.r3_plain.specs.Words.{given_of};
 
 use crate::commands::next;
-use crate::declared::{Declared, queue_in};
+use crate::declared::{Declared, queue_called};
 use crate::flows::{Flow, by_start, flows_now, let_go};
 use crate::given::Given;
 use crate::past::Kept;
@@ -61,17 +61,24 @@ fn running_count(flows: &[Flow], name: &str) -> usize
     count
 }
 
+fn keep_waiting(left: &mut Vec<Flow>, flow: Flow, name: &str) -> Result<(), Memory>
+    ensures { OnOk result (map flow_of left.new.items ≡ map flow_of left.old.items ++ filter (λ (f : F). rule.is_waiting name.now f.row) (flow_of flow ∷ [])) }
+{
+    if is_waiting(name, &flow.row) {
+        left.push(flow)?;
+    } else {
+        let_go(flow);
+    }
+    Ok(())
+}
+
 // Those that wait in the queue, in the order of their IDs.
 fn waiting(alloc: Global, flows: Vec<Flow>, name: &str) -> Result<Vec<Flow>, Memory>
     ensures { IfOk result (λ left. map flow_of left.items ≡ filter (λ (f : F). rule.is_waiting name.now f.row) (map flow_of flows.items)) }
 {
     let mut left = Vec::new(alloc);
     'flows: for flow in flows {
-        if is_waiting(name, &flow.row) {
-            left.push(flow)?;
-        } else {
-            let_go(flow);
-        }
+        keep_waiting(&mut left, flow, name)?;
     }
     Ok(left)
 }
@@ -151,7 +158,7 @@ pub fn dequeued(
         given_of g ≡ machine.dequeued h (language_of program.now) name.now) }
 {
     past.is_past();
-    match queue_in(&program.program().items, name)? {
+    match queue_called(program, name)? {
         None => Ok(Given::Answers(Reply::Refused(Refusal::UnknownQueue))),
         Some(queue) => {
             let flows = flows_now(alloc, past.history)?;

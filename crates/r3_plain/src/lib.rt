@@ -33,3 +33,6 @@ pub use reply::{Call, Limit, Out, Reply};
 pub use state::State;
 pub use stepping::step;
 
+
+#[cfg(test)]
+mod cases;

@@ -11,10 +11,10 @@ pub returns-in-Some-Failure : goal.returns-in-Some-Failure
 returns-in-Some-Failure c =
     let h : is_utf8 c.as_str.result.now ≡ true = is_utf8-from_IsUtf8 _ c.as_str.utf8 in
     let u : IsTrue (is_utf8 c.as_str.result.now) = cc in
-    let text : IsAnyText c.in-Some-Failure.word.now = record {
+    let text : IsAnyText c.in-Some-Failure.word = record {
       long = omega arith;
       short = c.as_str.ensures.short;
       utf8 = subst (λ (s : List ℕ). IsTrue (is_utf8 s)) c.as_str.ensures.text u;
     } in
-    let is : c.args.answer.now ≡ Some (Failure c.in-Some-Failure.word.now) = cc in
+    let is : c.args.answer.now ≡ Some (Failure c.in-Some-Failure.word) = cc in
     subst (λ (a : Option Outcome). IfThere IsOutcome a) (sym is) text

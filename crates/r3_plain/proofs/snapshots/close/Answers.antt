@@ -4,4 +4,4 @@ use Rattle.r3_plain.proofs.Closed.{removed, sorted_entries}
 use Rattle.r3_plain.proofs.snapshots.close.Goals as goal
 
 pub returns : goal.returns
-returns c = c.remove.ensures.entries ∙ removed c.args.id.now c.args.begun.now.entries (sorted_entries bytes_cmp c.args.begun.now.entries c.len-_count.ensures.ordered)
+returns c = c.remove.ensures.entries ∙ removed c.args.id.now c.args.begun.now.entries (sorted_entries bytes_cmp c.args.begun.now.entries c.len-count.ensures.ordered)

@@ -1,9 +1,8 @@
 use Rattle.std.proofs.Common.{[], ◌∷◌, Option, sym, ap, ◌∙◌, subst}
 use Rattle.r3_value.specs.declared.value.Outcome.{Outcome}
 use Rattle.r3_entry.specs.Formed.{IsFormed}
-use Rattle.r3_entry.specs.Limits.{IfThere, IsOutcome}
 use Rattle.r3_model.specs.Functions.{language_of}
-use Rattle.r3_model.specs.Machine.{Out, State, stepped}
+use Rattle.r3_model.specs.Machine.{Out, stepped}
 use Rattle.r3_model.specs.Valid.{AreOpen, IsValid}
 use Rattle.r3_laws.proofs.KeepsValid.{stays-formed}
 use Rattle.r3_plain.specs.Words.{event_of, state_of}
@@ -32,12 +31,3 @@ returns-in-Ok-clause-valid c = λ valid.
     (c.keeps_valid.ensures.keeps (language_of c.args.program.now) (state_of c.args.state.now) (event_of c.args.event.now) (c.in_ok-answer.answer ∷ [])
     (c.programs_are_lawful.ensures c.args.program.now) (c.programs_are_limited.ensures c.args.program.now c.program.ensures.sound c.holds_values.ensures)
     valid c.requires.fits (c.is_answer.ensures, tt {0}))
-
-pub returns-in-Err-clause-formed : goal.returns-in-Err-clause-formed
-returns-in-Err-clause-formed c = subst (λ (s : State). IsFormed s.history) (sym c.in-Err.ensures.err) c.requires.formed
-
-pub returns-in-Err-clause-snapshots : goal.returns-in-Err-clause-snapshots
-returns-in-Err-clause-snapshots c = subst (λ (s : State). AreOpen (language_of c.args.program.now) s) (sym c.in-Err.ensures.err) c.requires.snapshots
-
-pub returns-in-Err-clause-valid : goal.returns-in-Err-clause-valid
-returns-in-Err-clause-valid c = λ valid. subst (λ (s : State). IsValid (language_of c.args.program.now) s) (sym c.in-Err.ensures.err) valid
