@@ -17,17 +17,26 @@ pub fn first_of(answers: &[Option<Outcome>]) -> Result<Option<Outcome>, Memory>
     }
 }
 
+// An outcome keeps the limits of values.
+fn is_outcome(outcome: &Outcome)
+    ensures { IsOutcome outcome.now }
+{
+    match outcome {
+        Outcome::Value(value) => {
+            value.weight();
+        }
+        Outcome::Failure(word) => {
+            word.as_str();
+        }
+    }
+}
+
 /// An answer keeps the limits of values.
 pub fn is_answer(answer: &Option<Outcome>)
     ensures { IfThere IsOutcome answer.now }
 {
     match answer {
         None => {}
-        Some(Outcome::Value(value)) => {
-            value.weight();
-        }
-        Some(Outcome::Failure(word)) => {
-            word.as_str();
-        }
+        Some(outcome) => is_outcome(outcome),
     }
 }
