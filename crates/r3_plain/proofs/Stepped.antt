@@ -6,7 +6,7 @@ use Rattle.r3_entry.specs.declared.entry.Act.TheVariants as acts
 use Rattle.r3_model.specs.Event.{Event, Reply, Call}
 use Rattle.r3_model.specs.Given.{Given}
 use Rattle.r3_model.specs.Language.{Language}
-use Rattle.r3_model.specs.Machine.{State, Out, Begun, after_act, calls_of, came, given, snap_of, stepped}
+use Rattle.r3_model.specs.Machine.{State, Begun, after_act, calls_of, came, given, snap_of, stepped}
 use Rattle.r3_plain.specs.Comes.{closed_by, closing}
 
 pub by_came : (P : Language) (st : State) (ev : Event) (answer : Option Outcome) (g : Given) (calls : List Call) (after : State) (r : Reply)

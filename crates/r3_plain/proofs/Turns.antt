@@ -1,5 +1,5 @@
 -- What a turn comes to, by its pieces.
-use Rattle.std.proofs.Common.{◌≡◌, ℕ, ◌+◌, Bool, true, false, List, [], ◌∷◌, length, Option, Some, None, refl, sym, ap, ◌∙◌, subst}
+use Rattle.std.proofs.Common.{◌≡◌, ℕ, ◌+◌, Bool, true, List, length, Option, Some, None, refl, sym, ap, ◌∙◌, subst}
 use Rattle.std.specs.Prelude.{find, if◌then◌else◌, bytes_eq}
 use Rattle.std.specs.FinMap.Entries as sorted_list
 use Rattle.r3_value.specs.declared.value.Outcome.{Outcome}

@@ -1,5 +1,5 @@
 -- The machine's words, for what the program has.
-use Rattle.std.specs.Prelude.{ℕ, List, [], ◌∷◌, Option, Some, None}
+use Rattle.std.specs.Prelude.{List, [], ◌∷◌, Option, Some, None}
 use Rattle.r3_model.specs.Event as event
 use Rattle.r3_model.specs.Given as given
 use Rattle.r3_model.specs.Machine as machine

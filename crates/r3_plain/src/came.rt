@@ -99,12 +99,7 @@ fn stand_closing(state: &mut State, entry: Entry, reply: Reply) -> Result<Reply,
 }
 
 // The entry is appended, where there is room.
-fn entered(
-    alloc: Global,
-    state: &mut State,
-    entry: Entry,
-    reply: Reply,
-) -> Result<Reply, Memory>
+fn entered(alloc: Global, state: &mut State, entry: Entry, reply: Reply) -> Result<Reply, Memory>
     requires formed { IsFormed (state_of state.old).history }
     requires limits { length (state_of state.old).history < 1000000 → IsEntry entry × (length (spell.entry entry) ≤ 2 ^ 23) }
     ensures entered { IfOk result (λ r. machine.entered (state_of state.old) entry (reply_of reply) (machine.full_of (state_of state.old).history entry)
@@ -164,12 +159,7 @@ fn noted_by(
 }
 
 // Nothing is appended.
-fn answered(
-    alloc: Global,
-    state: &mut State,
-    event: &Event,
-    reply: Reply,
-) -> Result<Reply, Memory>
+fn answered(alloc: Global, state: &mut State, event: &Event, reply: Reply) -> Result<Reply, Memory>
     ensures answered { IfOk result (λ r. machine.came (state_of state.old) (event_of event.now) (machine_given.Answers (reply_of reply)) ≡ (state_of state.new, reply_of r)) }
     ensures err { OnErr result (state_of state.new ≡ state_of state.old) }
 {
@@ -183,12 +173,7 @@ fn answered(
 }
 
 /// What an event comes to is done, where there is room for its entry.
-pub fn came(
-    alloc: Global,
-    state: &mut State,
-    event: &Event,
-    given: Given,
-) -> Result<Reply, Memory>
+pub fn came(alloc: Global, state: &mut State, event: &Event, given: Given) -> Result<Reply, Memory>
     requires formed { IsFormed (state_of state.old).history }
     requires limits { (e : E) (r : machine_event.Reply) → given_of given ≡ machine_given.Enters e r → length (state_of state.old).history < 1000000 →
         IsEntry e × (length (spell.entry e) ≤ 2 ^ 23) }

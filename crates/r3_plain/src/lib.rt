@@ -33,6 +33,5 @@ pub use reply::{Call, Limit, Out, Reply};
 pub use state::State;
 pub use stepping::step;
 
-
 #[cfg(test)]
 mod cases;

@@ -30,7 +30,9 @@ use crate::turn::turn_of;
 use fn_tree::checked::Checked;
 use r3_acts::program_entry;
 use r3_entry::ProgramText;
-use r3_laws::{enters_what_follows, keeps_open, keeps_valid, programs_are_lawful, programs_are_limited};
+use r3_laws::{
+    enters_what_follows, keeps_open, keeps_valid, programs_are_lawful, programs_are_limited,
+};
 use r3_past::Past;
 use r3_value::{Memory, Outcome};
 use std::alloc::Global;
@@ -66,12 +68,7 @@ fn got_by(
 }
 
 // What an event but a turn comes to.
-fn done(
-    alloc: Global,
-    program: &Checked,
-    past: &Kept<'_>,
-    event: &Event,
-) -> Result<Given, Memory>
+fn done(alloc: Global, program: &Checked, past: &Kept<'_>, event: &Event) -> Result<Given, Memory>
     requires stands { (h : List E) × Stands past.now h }
     ensures { IfOk result (λ g. (h : List E) → Stands past.now h → IsDone (language_of program.now) h event.now g) }
 {
@@ -87,12 +84,7 @@ fn done(
 }
 
 // What an event but a turn comes to in this state. It makes no call.
-fn happens(
-    alloc: Global,
-    program: &Checked,
-    state: &State,
-    event: &Event,
-) -> Result<Turned, Memory>
+fn happens(alloc: Global, program: &Checked, state: &State, event: &Event) -> Result<Turned, Memory>
     requires formed { IsFormed (state_of state.now).history }
     ensures { IfOk result (λ t. IsOther event.now → (answer : Option O) → Happens (language_of program.now) (state_of state.now) (event_of event.now) answer t) }
 {

@@ -97,12 +97,7 @@ fn outside_turn(
 }
 
 // A child is asked for.
-fn child_given(
-    alloc: Global,
-    past: &Kept<'_>,
-    id: &Txt,
-    request: &Request,
-) -> Result<Given, Memory>
+fn child_given(alloc: Global, past: &Kept<'_>, id: &Txt, request: &Request) -> Result<Given, Memory>
     requires stands { (h : List E) × Stands past.now h }
     ensures { IfOk result (λ g. (language : Language) (h : List E) → Stands past.now h →
         given_of g ≡ machine.child_or_id language h id.now request.now (children.child_id id.now request.now.n)) }
@@ -114,12 +109,7 @@ fn child_given(
     })
 }
 
-fn child_turn(
-    alloc: Global,
-    past: &Kept<'_>,
-    id: &Txt,
-    request: &Request,
-) -> Result<Turned, Memory>
+fn child_turn(alloc: Global, past: &Kept<'_>, id: &Txt, request: &Request) -> Result<Turned, Memory>
     requires stands { (h : List E) × Stands past.now h }
     ensures { IfOk result (λ t. (language : Language) (h : List E) → Stands past.now h →
         ComesTo t (machine.child_or_id language h id.now request.now (children.child_id id.now request.now.n)) []) }
@@ -129,12 +119,7 @@ fn child_turn(
 }
 
 // Another is awaited.
-fn await_given(
-    alloc: Global,
-    past: &Kept<'_>,
-    id: &Txt,
-    request: &Request,
-) -> Result<Given, Memory>
+fn await_given(alloc: Global, past: &Kept<'_>, id: &Txt, request: &Request) -> Result<Given, Memory>
     requires stands { (h : List E) × Stands past.now h }
     ensures { IfOk result (λ g. (language : Language) (h : List E) → Stands past.now h →
         given_of g ≡ machine.await_turn language h id.now request.now (machine.text_of request.now.args)
@@ -149,12 +134,7 @@ fn await_given(
     }
 }
 
-fn await_turn(
-    alloc: Global,
-    past: &Kept<'_>,
-    id: &Txt,
-    request: &Request,
-) -> Result<Turned, Memory>
+fn await_turn(alloc: Global, past: &Kept<'_>, id: &Txt, request: &Request) -> Result<Turned, Memory>
     requires stands { (h : List E) × Stands past.now h }
     ensures { IfOk result (λ t. (language : Language) (h : List E) → Stands past.now h →
         ComesTo t (machine.await_turn language h id.now request.now (machine.text_of request.now.args)

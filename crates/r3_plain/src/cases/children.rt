@@ -45,7 +45,10 @@ fn a_child_that_stands_there_is_adopted(rt: HostRuntime) -> Result<(), Fail> {
         ("start p1-0 send c a 0", "entry 3 p1-0"),
         ("start p1 both a b 3", "entry 4 p1"),
         ("turn p1", "entry 5"),
-        ("entry 5", "child p1 0 p1-0 on 4; p1#0 = child send value p1-0"),
+        (
+            "entry 5",
+            "child p1 0 p1-0 on 4; p1#0 = child send value p1-0",
+        ),
         (
             "status p1-0",
             "PENDING send c a 0; none; queue none; started 3; attempts 0; parent none",
@@ -61,7 +64,10 @@ fn a_child_under_another_function_is_a_conflict(rt: HostRuntime) -> Result<(), F
         ("start p1-0 wait x", "entry 3 p1-0"),
         ("start p1 both a b 3", "entry 4 p1"),
         ("turn p1", "entry 5"),
-        ("entry 5", "child p1 0 p1-0 on 4; p1#0 = child send failure conflict"),
+        (
+            "entry 5",
+            "child p1 0 p1-0 on 4; p1#0 = child send failure conflict",
+        ),
         ("turn p1", "entry 6"),
         (
             "status p1",
@@ -78,7 +84,10 @@ fn an_await_takes_the_outcome_of_what_has_ended(rt: HostRuntime) -> Result<(), F
         LOAD,
         ("start w1 wait x", "entry 3 w1"),
         ("turn w1", "entry 4"),
-        ("entry 4", "await w1 0 x on 3; w1#0 = await await failure unknown_id"),
+        (
+            "entry 4",
+            "await w1 0 x on 3; w1#0 = await await failure unknown_id",
+        ),
         ("start s1 send a b 3", "entry 5 s1"),
         ("start w2 wait s1", "entry 6 w2"),
         ("turn w2", "waiting s1"),
@@ -91,7 +100,10 @@ fn an_await_takes_the_outcome_of_what_has_ended(rt: HostRuntime) -> Result<(), F
         ("turn o1", "entry 11"),
         ("start w3 wait o1", "entry 12 w3"),
         ("turn w3", "entry 13"),
-        ("entry 13", "await w3 0 o1 on 12; w3#0 = await await failure budget"),
+        (
+            "entry 13",
+            "await w3 0 o1 on 12; w3#0 = await await failure budget",
+        ),
     ];
     played(&rt, rt.alloc(), BANK, &steps)
 }
@@ -108,14 +120,20 @@ fn an_await_takes_a_failure_where_no_outcome_comes(rt: HostRuntime) -> Result<()
         ("turn w1", "waiting e1"),
         ("cancel e1", "entry 6"),
         ("turn w1", "entry 7"),
-        ("entry 7", "await w1 0 e1 on 6; w1#0 = await await failure cancelled"),
+        (
+            "entry 7",
+            "await w1 0 e1 on 6; w1#0 = await await failure cancelled",
+        ),
         ("start r1 send a b 3", "entry 8 r1"),
         ("start w2 wait r1", "entry 9 w2"),
         ("recoveries r1 50", "entry 59"),
         ("turn w2", "waiting r1"),
         ("recoveries r1 1", "entry 60"),
         ("turn w2", "entry 61"),
-        ("entry 61", "await w2 0 r1 on 60; w2#0 = await await failure attempts"),
+        (
+            "entry 61",
+            "await w2 0 r1 on 60; w2#0 = await await failure attempts",
+        ),
     ];
     played(&rt, rt.alloc(), BANK, &steps)
 }

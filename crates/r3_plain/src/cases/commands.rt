@@ -49,10 +49,7 @@ fn an_absent_id_is_made_of_the_length(rt: HostRuntime) -> Result<(), Fail> {
             "start - odd 1",
             "entry 2 11116e73-1c03-5de6-9130-5f9925ae8ab4",
         ),
-        (
-            "turn 11116e73-1c03-5de6-9130-5f9925ae8ab4",
-            "entry 3",
-        ),
+        ("turn 11116e73-1c03-5de6-9130-5f9925ae8ab4", "entry 3"),
         (
             "status 11116e73-1c03-5de6-9130-5f9925ae8ab4",
             "SUCCESS odd 1; value overflow; queue none; started 2; attempts 0; parent none",
@@ -147,7 +144,10 @@ fn a_fork_does_only_what_comes_after_its_steps(rt: HostRuntime) -> Result<(), Fa
         ("start m1 move a b 3", "entry 3 m1"),
         ("drain 100", "idle 9"),
         ("fork m1 1 m2", "entry 7 m2"),
-        ("entry 7", "fork m2 m1 1 on 6; m2 = PENDING; m2#0 = txn pay value 3"),
+        (
+            "entry 7",
+            "fork m2 m1 1 on 6; m2 = PENDING; m2#0 = txn pay value 3",
+        ),
         ("turn m2", "entry 8, called m2 1 notify b 3: value null"),
         ("turn m2", "entry 9"),
         ("get acct a", "7"),

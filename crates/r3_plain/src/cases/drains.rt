@@ -160,8 +160,14 @@ fn a_drain_gives_each_workflow_a_turn_a_round(rt: HostRuntime) -> Result<(), Fai
         ("pending", " s1 e1"),
         ("entry 5", "dequeue e1 on 4; e1 = PENDING"),
         ("drain 100", "idle 11"),
-        ("status s1", "SUCCESS send a b 3; value 3; queue none; started 3; attempts 0; parent none"),
-        ("status e1", "SUCCESS send b c 2; value 2; queue mail; started 4; attempts 0; parent none"),
+        (
+            "status s1",
+            "SUCCESS send a b 3; value 3; queue none; started 3; attempts 0; parent none",
+        ),
+        (
+            "status e1",
+            "SUCCESS send b c 2; value 2; queue mail; started 4; attempts 0; parent none",
+        ),
         ("get acct c", "2"),
     ];
     played(&rt, rt.alloc(), BANK, &steps)

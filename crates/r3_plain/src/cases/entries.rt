@@ -17,7 +17,10 @@ fn the_entries_of_a_transfer(rt: HostRuntime) -> Result<(), Fail> {
             "entry 4",
             "txn m1 0 a b 3 on 3; acct.a@2; acct.b@2; acct.a = 7; acct.b = 8; m1#0 = txn pay value 3",
         ),
-        ("entry 5", "outside m1 1 b 3 on 4; m1#1 = outside notify value null"),
+        (
+            "entry 5",
+            "outside m1 1 b 3 on 4; m1#1 = outside notify value null",
+        ),
         ("entry 6", "finish m1 on 5; m1 = SUCCESS"),
     ];
     played(&rt, rt.alloc(), BANK, &steps)

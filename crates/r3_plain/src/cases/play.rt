@@ -123,7 +123,12 @@ fn entry(alloc: Global, state: &State, number: &str) -> Result<String, Memory> {
     entry_words(alloc, &history[number - 1])
 }
 
-fn event_by(alloc: Global, program: &Checked, state: &mut State, words: &[&str]) -> Result<String, Memory>
+fn event_by(
+    alloc: Global,
+    program: &Checked,
+    state: &mut State,
+    words: &[&str],
+) -> Result<String, Memory>
     requires { IsValid (language_of program.now) (state_of state.old) }
     ensures { IsValid (language_of program.now) (state_of state.new) }
 {
@@ -136,7 +141,12 @@ fn event_by(alloc: Global, program: &Checked, state: &mut State, words: &[&str])
     }
 }
 
-fn done(alloc: Global, program: &Checked, state: &mut State, words: &[&str]) -> Result<String, Memory>
+fn done(
+    alloc: Global,
+    program: &Checked,
+    state: &mut State,
+    words: &[&str],
+) -> Result<String, Memory>
     requires { IsValid (language_of program.now) (state_of state.old) }
     ensures { IsValid (language_of program.now) (state_of state.new) }
 {
@@ -161,7 +171,12 @@ fn done(alloc: Global, program: &Checked, state: &mut State, words: &[&str]) -> 
     }
 }
 
-fn done_by(alloc: Global, program: &Checked, state: &mut State, text: &str) -> Result<String, Memory>
+fn done_by(
+    alloc: Global,
+    program: &Checked,
+    state: &mut State,
+    text: &str,
+) -> Result<String, Memory>
     requires { IsValid (language_of program.now) (state_of state.old) }
     ensures { IsValid (language_of program.now) (state_of state.new) }
 {
@@ -232,8 +247,7 @@ pub fn played(
     alloc: Global,
     text: &str,
     steps: &[(&str, &str)],
-) -> Result<(), Fail>
-{
+) -> Result<(), Fail> {
     let program = program_within(alloc, text)?;
     played_from(rt, alloc, &program, text, steps)?;
     Ok(())
@@ -263,8 +277,7 @@ pub fn played_again(
     steps: &[(&str, &str)],
     other: &str,
     later: &[(&str, &str)],
-) -> Result<(), Fail>
-{
+) -> Result<(), Fail> {
     let program = program_within(alloc, text)?;
     let state = played_from(rt, alloc, &program, text, steps)?;
     let program = program_within(alloc, other)?;

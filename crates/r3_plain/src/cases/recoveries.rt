@@ -58,8 +58,14 @@ fn a_call_that_fails_is_made_again(rt: HostRuntime) -> Result<(), Fail> {
         ("turn m1", "entry 4"),
         ("turn m1 unanswered", "again, called m1 1 notify b 3: none"),
         ("len", "4"),
-        ("turn m1 down", "entry 5, called m1 1 notify b 3: failure down"),
-        ("entry 5", "outside m1 1 b 3 on 4; m1#1 = outside notify failure down"),
+        (
+            "turn m1 down",
+            "entry 5, called m1 1 notify b 3: failure down",
+        ),
+        (
+            "entry 5",
+            "outside m1 1 b 3 on 4; m1#1 = outside notify failure down",
+        ),
         ("turn m1", "entry 6"),
         (
             "status m1",

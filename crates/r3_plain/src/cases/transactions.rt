@@ -136,14 +136,23 @@ fn a_range_has_the_keys_that_are_present(rt: HostRuntime) -> Result<(), Fail> {
         ("len", "10"),
         ("start c1 counts", "entry 11 c1"),
         ("drain 100", "idle 3"),
-        ("entry 12", "txn c1 0 on 11; item[a, n] apple@5 melon@6; c1#0 = txn count value 2"),
+        (
+            "entry 12",
+            "txn c1 0 on 11; item[a, n] apple@5 melon@6; c1#0 = txn count value 2",
+        ),
         ("start d1 drops apple", "entry 14 d1"),
         ("drain 100", "idle 3"),
-        ("entry 15", "txn d1 0 apple on 14; item.apple = deleted; d1#0 = txn drop_one value apple"),
+        (
+            "entry 15",
+            "txn d1 0 apple on 14; item.apple = deleted; d1#0 = txn drop_one value apple",
+        ),
         ("get item apple", "absent"),
         ("start c2 counts", "entry 17 c2"),
         ("drain 100", "idle 3"),
-        ("entry 18", "txn c2 0 on 17; item[a, n] melon@6; c2#0 = txn count value 1"),
+        (
+            "entry 18",
+            "txn c2 0 on 17; item[a, n] melon@6; c2#0 = txn count value 1",
+        ),
     ];
     played(&rt, rt.alloc(), ITEMS, &steps)
 }

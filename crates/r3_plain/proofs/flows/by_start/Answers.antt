@@ -1,4 +1,4 @@
-use Rattle.std.proofs.Common.{◌≡◌, List, map, sym, ap, ◌∙◌}
+use Rattle.std.proofs.Common.{List, map, sym, ap, ◌∙◌}
 use Rattle.r3_model.specs.Rows as machine
 use Rattle.r3_plain.specs.Flows.{flow_of}
 use Rattle.r3_plain.specs.declared.flows.Flow.{Flow}

@@ -1,5 +1,4 @@
-use Rattle.std.proofs.Common.{◌≡◌, ℕ, Bool, true, false, nat_le, map, sym, ap, ◌∙◌}
-use Rattle.r3_model.specs.Rows.{Flow}
+use Rattle.std.proofs.Common.{◌≡◌, ℕ, true, false, nat_le, sym, ap, ◌∙◌}
 use Rattle.r3_plain.proofs.Sorting.{insert_here, insert_later}
 use Rattle.r3_plain.proofs.flows.place_of.Goals as goal
 

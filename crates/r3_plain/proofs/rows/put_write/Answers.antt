@@ -1,4 +1,4 @@
-use Rattle.std.proofs.Common.{◌≡◌, Option, ap, ◌∙◌}
+use Rattle.std.proofs.Common.{Option, ap, ◌∙◌}
 use Rattle.r3_rows.specs.declared.rows.Cell.{Cell}
 use Rattle.r3_rows.specs.declared.rows.Key.{Key}
 use Rattle.r3_rows.specs.Keys.{key_cmp}

@@ -1,6 +1,4 @@
 use Rattle.std.proofs.Common.{◌≡◌, take}
-use Rattle.r3_entry.specs.History.{after_entry}
-use Rattle.r3_entry.specs.declared.entry.Entry.{Entry}
 use Rattle.r3_plain.proofs.RowLemmas.{put_all}
 use Rattle.r3_plain.proofs.rows.put_writes.Given as goal
 

@@ -1,4 +1,4 @@
-use Rattle.std.proofs.Common.{◌≡◌, ◌+◌, ◌≤◌, length, sym, ◌∙◌, arith}
+use Rattle.std.proofs.Common.{◌+◌, ◌≤◌, length, sym, ◌∙◌, arith}
 use Rattle.r3_model.specs.Functions.{language_of}
 use Rattle.r3_plain.specs.Words.{event_of, given_of, state_of}
 use Rattle.r3_plain.proofs.Stepped.{by_came}

@@ -1,4 +1,4 @@
-use Rattle.std.proofs.Common.{◌≡◌, sym, ◌∙◌}
+use Rattle.std.proofs.Common.{sym, ◌∙◌}
 use Rattle.r3_model.specs.Functions.{language_of}
 use Rattle.r3_plain.proofs.Turns.{by_end}
 use Rattle.r3_plain.proofs.turned.ended.Goals as goal

@@ -1,4 +1,4 @@
-use Rattle.std.proofs.Common.{◌≡◌, List, None, sym, ap, ◌∙◌}
+use Rattle.std.proofs.Common.{List, sym, ap, ◌∙◌}
 use Rattle.r3_entry.specs.declared.entry.Entry.{Entry}
 use Rattle.r3_model.specs.Turns.{conflict_keys, writer_past}
 use Rattle.r3_plain.proofs.Turns.{commits}

@@ -5,4 +5,3 @@ use Rattle.r3_plain.proofs.cases.drains.drained.Given as goal
 
 abbrev pub invariant-rounds : goal.invariant-rounds
 invariant-rounds l = IsValid (language_of l.program) (state_of l.state)
-

@@ -8,4 +8,3 @@ invariant-items l = IsValid (language_of l.program) (state_of l.state)
 
 abbrev pub invariant-ids : goal.invariant-ids
 invariant-ids l = IsValid (language_of l.program) (state_of l.state)
-

@@ -5,4 +5,3 @@ use Rattle.r3_plain.proofs.cases.play.play.Given as goal
 
 abbrev pub invariant-steps : goal.invariant-steps
 invariant-steps g l = IsValid (language_of l.program) (state_of l.state)
-

@@ -5,4 +5,3 @@ use Rattle.r3_plain.proofs.cases.play.recovered.Given as goal
 
 abbrev pub invariant-recoveries : goal.invariant-recoveries
 invariant-recoveries l = IsValid (language_of l.program) (state_of l.state)
-

@@ -5,4 +5,3 @@ use Rattle.r3_plain.proofs.cases.play.restarted.Given as goal
 
 abbrev pub invariant-ids : goal.invariant-ids
 invariant-ids l = IsValid (language_of l.program) (state_of l.state)
-
