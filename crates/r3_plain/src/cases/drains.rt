@@ -19,6 +19,7 @@ use std::alloc::Global;
 use std::test::Fail;
 
 // A round so far: the turns that are left, whether something changed, and whether the turns ran out.
+#[derive(Drop)]
 struct Round {
     left: u32,
     changed: bool,
