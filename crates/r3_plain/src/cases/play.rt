@@ -7,6 +7,7 @@ ghost use Rattle.r3_model.specs.Valid.{IsValid};
 ghost use Rattle.r3_plain.specs.Cases.{FitsLater};
 ghost use Rattle.r3_plain.specs.Words.{state_of};
 
+use crate::begin::begin;
 use crate::cases::bank::program_of;
 use crate::cases::drains::drained;
 use crate::cases::events::{event_of, recovery, turn};
@@ -79,12 +80,22 @@ fn turned(
     happen(alloc, program, state, &event, &answers)
 }
 
+// The history alone is kept.
+fn restart(alloc: Global, program: &Checked, state: &mut State)
+    requires formed { IsFormed (state_of state.old).history }
+    requires begins { (state_of state.old).history ≢ [] }
+    ensures { IsValid (language_of program.now) (state_of state.new) }
+{
+    let _program = program;
+    state.restart(alloc);
+}
+
 // A restart: each running workflow is recovered.
 fn restarted(alloc: Global, program: &Checked, state: &mut State) -> Result<String, Memory>
     requires { IsValid (language_of program.now) (state_of state.old) }
     ensures { IsValid (language_of program.now) (state_of state.new) }
 {
-    state.restart(alloc);
+    restart(alloc, program, state);
     let ids = pending(alloc, state)?;
     'ids: for id in ids.as_slice() {
         let event = recovery(alloc, id.as_str())?;
@@ -191,15 +202,11 @@ fn done_by(
 fn begun(alloc: Global, program: &Checked, text: &str) -> Result<State, Memory>
     ensures { IfOk result (λ state. IsValid (language_of program.now) (state_of state)) }
 {
-    if text.len() > 1_048_576 {
+    let text = ProgramText::from_string(String::from_str(alloc, text)?);
+    if text.as_str().len() > 1_048_576 {
         return Err(Memory);
     }
-    let mut state = State::new(alloc);
-    let text = ProgramText::from_string(String::from_str(alloc, text)?);
-    let _text = text.as_str();
-    let event = Event::Append { text };
-    step(alloc, program, &mut state, &event, &[])?;
-    Ok(state)
+    begin(alloc, program, text)
 }
 
 fn play(
@@ -265,7 +272,7 @@ fn retold(
     requires begins { (state_of state).history ≢ [] }
 {
     let mut state = state;
-    state.restart(alloc);
+    restart(alloc, program, &mut state);
     play(rt, alloc, program, &mut state, steps)
 }
 
