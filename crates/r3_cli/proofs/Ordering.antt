@@ -53,7 +53,7 @@ say-of halts.Program is = absurd (omega (arith, is))
 say-of halts.LongFile is = absurd (omega (arith, is))
 say-of halts.LongScript is = absurd (omega (arith, is))
 
-no-five-zero : 5 ≡ 0 → ⊥
+no-five-zero : ◌≡◌ {A = ℕ} 5 0 → ⊥
 no-five-zero is = omega (arith, is)
 
 said-whole : (Goes : Option Halt → Text → Type 0) (halt : Halt) (line : Text) → halt ≡ halts.Say → line ≡ last_line halt → Goes (Some halt) line → Goes (Some halts.Say) []

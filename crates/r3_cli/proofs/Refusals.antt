@@ -60,7 +60,7 @@ one-program one text tokens given program same lexed only items is =
 -- ---- a text is taken or refused
 
 none-fault : (item : ℕ) (kind : CheckKind) → ◌≡◌ {A = Option (ℕ × CheckKind)} None (Some (item, kind)) → ⊥
-none-fault item kind is = cc
+none-fault item what is = cc
 
 pub not-refused : OneReading → (text : Text) (program : List Item) → IsText text program → ((items : List Item) → IsText text items → items ≡ program)
     → first_fault program ≡ None → (fault : FunctionsFault) → IsRefused text fault → ⊥

@@ -42,11 +42,11 @@ module _ {T : Type 0} (B : Halt → Type 0) where
 
 pub at-fetch : {T : Type 0} (text : Text) (halt : Halt) → Fetches T halt → (◌≡◌ {A = Result T Halt} (Err halt) (Err halts.LongFile) → 2 ^ 20 < length text)
     → EndsAtFile text (Some halt)
-at-fetch {T} text halt which long = of-fetch {T} (λ (x : Halt). EndsAtFile text (Some x)) halt which tt tt long
+at-fetch {T} text halt which long = of-fetch {T = T} (λ (x : Halt). EndsAtFile text (Some x)) halt which tt tt long
 
 pub cause-fetch : {T : Type 0} (text : Text) (image : Option Text) (halt : Halt) → Fetches T halt → (◌≡◌ {A = Result T Halt} (Err halt) (Err halts.LongFile) → 2 ^ 20 < length text)
     → HasEarlyCause text image (Some halt)
-cause-fetch {T} text image halt which long = of-fetch {T} (λ (x : Halt). HasEarlyCause text image (Some x)) halt which tt tt long
+cause-fetch {T} text image halt which long = of-fetch {T = T} (λ (x : Halt). HasEarlyCause text image (Some x)) halt which tt tt long
 
 -- what accepting answers
 abbrev pub Accepts : Type 0 → Halt → Type 0
@@ -60,19 +60,19 @@ module _ {T : Type 0} (B : Halt → Type 0) where
 pub at-accept : {T : Type 0} (text : Text) (halt : Halt) → length text ≤ 2 ^ 20 → Accepts T halt
     → ((fault : FunctionsFault) → ◌≡◌ {A = Result T Halt} (Err halt) (Err (halts.Functions fault)) → IsRefused text fault)
     → EndsAtFile text (Some halt)
-at-accept {T} text halt short which bad = of-accept {T} (λ (x : Halt). EndsAtFile text (Some x)) halt which tt (λ f e. (short, bad f e))
+at-accept {T} text halt short which bad = of-accept {T = T} (λ (x : Halt). EndsAtFile text (Some x)) halt which tt (λ f e. (short, bad f e))
 
 pub cause-accept : {T : Type 0} (text : Text) (image : Option Text) (halt : Halt) → length text ≤ 2 ^ 20 → Accepts T halt
     → ((fault : FunctionsFault) → ◌≡◌ {A = Result T Halt} (Err halt) (Err (halts.Functions fault)) → IsRefused text fault)
     → ((fault : FunctionsFault) → ◌≡◌ {A = Result T Halt} (Err halt) (Err (halts.Functions fault)) → (items : List Item) → IsAccepted text items → ⊥)
     → HasEarlyCause text image (Some halt)
-cause-accept {T} text image halt short which bad none = of-accept {T} (λ (x : Halt). HasEarlyCause text image (Some x)) halt which tt (λ f e. (short, bad f e, λ file. none f e file.0 file.1.1))
+cause-accept {T} text image halt short which bad none = of-accept {T = T} (λ (x : Halt). HasEarlyCause text image (Some x)) halt which tt (λ f e. (short, bad f e, λ file. none f e file.0 file.1.1))
 
 pub fetch-early : {T : Type 0} (halt : Halt) → Fetches T halt → IsEarly halt
-fetch-early {T} halt which = of-fetch {T} IsEarly halt which tt tt (λ l. tt)
+fetch-early {T} halt which = of-fetch {T = T} IsEarly halt which tt tt (λ l. tt)
 
 pub accept-early : {T : Type 0} (halt : Halt) → Accepts T halt → IsEarly halt
-accept-early {T} halt which = of-accept {T} IsEarly halt which tt (λ f e. tt)
+accept-early {T} halt which = of-accept {T = T} IsEarly halt which tt (λ f e. tt)
 
 -- a function file that was fetched and taken
 pub is-file : (text fetched given : Text) (program : List Item) → fetched ≡ text → length fetched ≤ 2 ^ 20 → given ≡ fetched → IsAccepted given program → IsFile text program

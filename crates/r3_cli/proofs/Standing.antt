@@ -105,7 +105,7 @@ module _ (form : Form) (text image script : Text) where
     others : IsFunctionFile text → OnStore form (IsOthers text (Some image)) → First
     cut : IsFunctionFile text → OnStore form (IsReady text (Some image)) → OnScript form (2 ^ 26 < length script) → First
 
-  first-status : First → ℕ
+  abbrev first-status : First → ℕ
   first-status (nothing f s c) = 0
   first-status (long l) = 10
   first-status (refused e l r) = 7
@@ -136,7 +136,7 @@ module _ (form : Form) (text image script : Text) where
     sure_others : IsFaultless text → OnStore form (IsOthers text (Some image)) → Sure
     sure_cut : IsFaultless text → OnStore form (IsReady text (Some image)) → OnScript form (2 ^ 26 < length script) → Sure
 
-  sure-status : Sure → ℕ
+  abbrev sure-status : Sure → ℕ
   sure-status (sure_nothing f s c) = 0
   sure-status (sure_long l) = 10
   sure-status (sure_refused e l r n) = 7
