@@ -19,7 +19,7 @@ returns-in-Command-clause-does g c = λ st runs.
 
 pub returns-in-Command-clause-stops : goal.returns-in-Command-clause-stops
 returns-in-Command-clause-stops g c = λ st runs.
-    subst (λ (l : script.Line). OnErr c.command.result (StopsLine g.D.Desk.image g.D.Desk.moment g.D.Desk.reach g.D.Desk.said g.D.Desk.asked (language c.args.exec.now) c.args.desk.now c.command.new.desk st l))
+    subst (λ (l : script.Line). OnErr c.command.result (StopsLine g.D.Desk.image g.D.Desk.moment g.D.Desk.reach g.D.Desk.said g.D.Desk.asked g.D.Desk.syncs (language c.args.exec.now) c.args.desk.now c.command.new.desk st l))
     (ap (λ (l : Line). as_line l) (sym c.in-Command.is))
     (c.command.ensures.stops st runs)
 
@@ -31,7 +31,7 @@ returns-in-Turn-clause-does g c = λ st runs.
 
 pub returns-in-Turn-clause-stops : goal.returns-in-Turn-clause-stops
 returns-in-Turn-clause-stops g c = λ st runs.
-    subst (λ (l : script.Line). OnErr c.turn.result (StopsLine g.D.Desk.image g.D.Desk.moment g.D.Desk.reach g.D.Desk.said g.D.Desk.asked (language c.args.exec.now) c.args.desk.now c.turn.new.desk st l))
+    subst (λ (l : script.Line). OnErr c.turn.result (StopsLine g.D.Desk.image g.D.Desk.moment g.D.Desk.reach g.D.Desk.said g.D.Desk.asked g.D.Desk.syncs (language c.args.exec.now) c.args.desk.now c.turn.new.desk st l))
     (ap (λ (t : Text). script.Does (Turn t)) c.as_str.ensures.text ∙ ap (λ (l : Line). as_line l) (sym c.in-Turn.is))
     (c.turn.ensures.stops st runs)
 
@@ -43,7 +43,7 @@ returns-in-Dequeue-clause-does g c = λ st runs.
 
 pub returns-in-Dequeue-clause-stops : goal.returns-in-Dequeue-clause-stops
 returns-in-Dequeue-clause-stops g c = λ st runs.
-    subst (λ (l : script.Line). OnErr c.dequeue.result (StopsLine g.D.Desk.image g.D.Desk.moment g.D.Desk.reach g.D.Desk.said g.D.Desk.asked (language c.args.exec.now) c.args.desk.now c.dequeue.new.desk st l))
+    subst (λ (l : script.Line). OnErr c.dequeue.result (StopsLine g.D.Desk.image g.D.Desk.moment g.D.Desk.reach g.D.Desk.said g.D.Desk.asked g.D.Desk.syncs (language c.args.exec.now) c.args.desk.now c.dequeue.new.desk st l))
     (ap (λ (t : Text). script.Does (Dequeue t)) c.as_str-in-Dequeue.ensures.text ∙ ap (λ (l : Line). as_line l) (sym c.in-Dequeue.is))
     (c.dequeue.ensures.stops st runs)
 
@@ -55,7 +55,7 @@ returns-in-Drain-clause-does g c = λ st runs.
 
 pub returns-in-Drain-clause-stops : goal.returns-in-Drain-clause-stops
 returns-in-Drain-clause-stops g c = λ st runs.
-    subst (λ (l : script.Line). OnErr c.drain.result (StopsLine g.D.Desk.image g.D.Desk.moment g.D.Desk.reach g.D.Desk.said g.D.Desk.asked (language c.args.exec.now) c.args.desk.now c.drain.new.desk st l))
+    subst (λ (l : script.Line). OnErr c.drain.result (StopsLine g.D.Desk.image g.D.Desk.moment g.D.Desk.reach g.D.Desk.said g.D.Desk.asked g.D.Desk.syncs (language c.args.exec.now) c.args.desk.now c.drain.new.desk st l))
     (ap (λ (l : Line). as_line l) (sym c.in-Drain.is))
     (c.drain.ensures.stops st runs)
 

@@ -1,0 +1,13 @@
+mod Same
+mod Writing
+mod Keeping
+mod Bringing
+mod Growing
+mod Beginning
+mod Firsts
+mod Telling
+mod Placing
+mod Holding
+mod Storing
+mod Worked
+mod WorkedStarts

@@ -1,0 +1,4 @@
+pub mod Flows
+pub mod Starting
+pub mod Invocations
+pub mod Laws
