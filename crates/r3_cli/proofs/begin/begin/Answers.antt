@@ -182,11 +182,3 @@ returns-in-Err-Disk-clause-file_first g c = λ text there none.
       is-file text c.in-Ok.text.items c.deref.result.now c.in-Ok-accept.program
           (c.in-Ok.ensures.text text there) c.in-Ok.ensures.short c.deref.ensures.value c.in-Ok-accept.ensures.accepted,
     ))
-
-pub returns-in-Err-Memory-clause-file_first : goal.returns-in-Err-Memory-clause-file_first
-returns-in-Err-Memory-clause-file_first g c = λ text there none.
-    absurd (none (
-      c.in-Ok-accept.program,
-      is-file text c.in-Ok.text.items c.deref.result.now c.in-Ok-accept.program
-          (c.in-Ok.ensures.text text there) c.in-Ok.ensures.short c.deref.ensures.value c.in-Ok-accept.ensures.accepted,
-    ))
