@@ -220,20 +220,18 @@ returns-in-Err-Start-Store-clause-store_first g c = λ image is none.
     let opens : Opening-of (g.D.Desk.image c.args.desk.now) c.args.text.now c.in-Err-Start-Store.field-0-0 = λ h i there history has. c.in-Err-Start-Store.ensures.opens h i there history has c.in-Err-Start-Store.field-0-0 (at-start c.in-Err-Start-Store.field-0 c.in-Err-Start-Store.field-0-0 c.in-Err-Start-Store.field-0-0 c.in-Err-Start-Store.field-0-is refl) in
     let bad : IsNoStore (g.D.Desk.image c.args.desk.now) c.entry_of.result = no-store (g.D.Desk.image c.args.desk.now) c.args.text.now c.in-Err-Start-Store.field-0-0 c.in-Err-Start-Store.fault c.in-Err-Start-Store.field-0-0-is opens
     (gen-others (g.D.Desk.image c.args.desk.now) c.args.text.now c.in-Err-Start-Store.field-0 c.in-Err-Start-Store.field-0-0 c.in-Err-Start-Store.field-0-is c.in-Err-Start-Store.ensures.other)
-    (c.in-Err-Start-Store.ensures.causes c.in-Err-Start-Store.field-0-0 (at-start c.in-Err-Start-Store.field-0 c.in-Err-Start-Store.field-0-0 c.in-Err-Start-Store.field-0-0 c.in-Err-Start-Store.field-0-is refl)) c.entry_of.result c.entry_of.ensures in
-    (
+    (c.in-Err-Start-Store.ensures.causes c.in-Err-Start-Store.field-0-0 (at-start c.in-Err-Start-Store.field-0 c.in-Err-Start-Store.field-0-0 c.in-Err-Start-Store.field-0-0 c.in-Err-Start-Store.field-0-is refl)) c.entry_of.result c.entry_of.ensures in (
       ((c.in-Ok.program, (c.requires.short, accepted)), bad),
       says-same g.D.Desk.image g.D.Desk.said g.D.Desk.asked c.args.desk.now c.run.new.desk (c.in-Err-Start-Store.ensures.unsaid c.in-Err-Start-Store.field-0-0 (at-start c.in-Err-Start-Store.field-0 c.in-Err-Start-Store.field-0-0 c.in-Err-Start-Store.field-0-0 c.in-Err-Start-Store.field-0-is refl)) (c.in-Err-Start-Store.ensures.unasked c.in-Err-Start-Store.field-0-0 (at-start c.in-Err-Start-Store.field-0 c.in-Err-Start-Store.field-0-0 c.in-Err-Start-Store.field-0-0 c.in-Err-Start-Store.field-0-is refl))
           (c.in-Err-Start-Store.ensures.kept c.in-Err-Start-Store.fault (at-start c.in-Err-Start-Store.field-0 c.in-Err-Start-Store.field-0-0 (starts.Store c.in-Err-Start-Store.fault) c.in-Err-Start-Store.field-0-is c.in-Err-Start-Store.field-0-0-is)),
-    
+    )
 
 pub returns-in-Err-Start-Other-clause-store_first : goal.returns-in-Err-Start-Other-clause-store_first
 returns-in-Err-Start-Other-clause-store_first g c = λ image is none.
     let accepted : IsAccepted c.args.text.now c.in-Ok.program = subst (λ (x : Text). IsAccepted x c.in-Ok.program) c.as_bytes.ensures.value c.in-Ok.ensures.accepted in
     let opens : Opening-of (g.D.Desk.image c.args.desk.now) c.args.text.now c.in-Err-Start-Other.field-0-0 = λ h i there history has. c.in-Err-Start-Other.ensures.opens h i there history has c.in-Err-Start-Other.field-0-0 (at-start c.in-Err-Start-Other.field-0 c.in-Err-Start-Other.field-0-0 c.in-Err-Start-Other.field-0-0 c.in-Err-Start-Other.field-0-is refl) in
-    let bad : IsOthers c.args.text.now (g.D.Desk.image c.args.desk.now) = gen-not-this (g.D.Desk.image c.args.desk.now) c.args.text.now c.in-Err-Start-Other.field-0-0 c.in-Err-Start-Other.field-0-0-is opens (c.in-Err-Start-Other.ensures.causes c.in-Err-Start-Other.field-0-0 (at-start c.in-Err-Start-Other.field-0 c.in-Err-Start-Other.field-0-0 c.in-Err-Start-Other.field-0-0 c.in-Err-Start-Other.field-0-is refl)) in
-    (
+    let bad : IsOthers c.args.text.now (g.D.Desk.image c.args.desk.now) = gen-not-this (g.D.Desk.image c.args.desk.now) c.args.text.now c.in-Err-Start-Other.field-0-0 c.in-Err-Start-Other.field-0-0-is opens (c.in-Err-Start-Other.ensures.causes c.in-Err-Start-Other.field-0-0 (at-start c.in-Err-Start-Other.field-0 c.in-Err-Start-Other.field-0-0 c.in-Err-Start-Other.field-0-0 c.in-Err-Start-Other.field-0-is refl)) in (
       ((c.in-Ok.program, (c.requires.short, accepted)), bad),
       says-same g.D.Desk.image g.D.Desk.said g.D.Desk.asked c.args.desk.now c.run.new.desk (c.in-Err-Start-Other.ensures.unsaid c.in-Err-Start-Other.field-0-0 (at-start c.in-Err-Start-Other.field-0 c.in-Err-Start-Other.field-0-0 c.in-Err-Start-Other.field-0-0 c.in-Err-Start-Other.field-0-is refl)) (c.in-Err-Start-Other.ensures.unasked c.in-Err-Start-Other.field-0-0 (at-start c.in-Err-Start-Other.field-0 c.in-Err-Start-Other.field-0-0 c.in-Err-Start-Other.field-0-0 c.in-Err-Start-Other.field-0-is refl))
           (c.in-Err-Start-Other.ensures.other_kept (at-start c.in-Err-Start-Other.field-0 c.in-Err-Start-Other.field-0-0 starts.Other c.in-Err-Start-Other.field-0-is c.in-Err-Start-Other.field-0-0-is)),
-    
+    )
