@@ -146,6 +146,13 @@ fn workflows_go_on_with_their_answers(rt: HostRuntime) -> Result<(), Fail> {
         ("both", abn, "", r#"asks 0: child send ["a","b",3]"#),
         ("both", abn, r#"send="c1""#, r#"asks 1: await await "c1""#),
         ("both", abn, r#"send="c1" await=3"#, "done 3"),
+        ("both", abn, "send!conflict", "done fails with conflict"),
+        (
+            "both",
+            abn,
+            r#"send="c1" await!cancelled"#,
+            "done fails with cancelled",
+        ),
         ("wait", r#"["w1"]"#, "", r#"asks 0: await await "w1""#),
         ("odd", "[1]", "", r#"done "overflow""#),
         ("odd", "[0]", "", "done 0"),

@@ -26,6 +26,15 @@ fn keys_have_1_to_256_bytes(rt: HostRuntime) -> Result<(), Fail> {
             assert_eq!(rt; outcome.as_str(), want, "{body} at {bytes} bytes");
         }
     }
+    // This letter has two bytes.
+    for (letters, want) in [(128, "null"), (129, "fails with size")] {
+        let key = "\u{e9}".repeat(alloc, letters)?;
+        let args = format!(in alloc; "[\"{key}\"]")?;
+        let text = "table acct; txn f(k) { put acct[k] = 1; }";
+        let run = ran(alloc, text, "f", &args, &view)?;
+        let outcome = outcome_text(alloc, &run.outcome)?;
+        assert_eq!(rt; outcome.as_str(), want, "{letters} letters");
+    }
     Ok(())
 }
 
@@ -102,6 +111,57 @@ fn a_scan_past_the_limits_of_a_value_is_recorded(rt: HostRuntime) -> Result<(), 
         let run = ran(alloc, text, "f", "[]", &view)?;
         let given = counts_text(alloc, &run)?;
         assert_eq!(rt; given.as_str(), want, "{rows} rows");
+    }
+    // The list has the body's own rows, and none that it deleted.
+    let cases = [
+        (
+            r#"put acct["k0"] = 1;"#,
+            170,
+            "fails with size; 1 looks; 0 writes",
+        ),
+        (r#"put acct["k1000"] = 2;"#, 170, "170; 1 looks; 1 writes"),
+        (r#"delete acct["k1000"];"#, 171, "170; 1 looks; 1 writes"),
+    ];
+    for (first, rows, want) in cases {
+        let rest = r#"let r = scan acct["k", "l"]; return len(r);"#;
+        let text = format!(in alloc; "table acct; txn f() {{ {first} {rest} }}")?;
+        let view = many(alloc, rows)?;
+        let run = ran(alloc, &text, "f", "[]", &view)?;
+        let given = counts_text(alloc, &run)?;
+        assert_eq!(rt; given.as_str(), want, "{first} with {rows} rows");
+    }
+    Ok(())
+}
+
+#[test]
+fn a_row_holds_any_value_within_its_limits(rt: HostRuntime) -> Result<(), Fail> {
+    let alloc = rt.alloc();
+    let view = many(alloc, 0)?;
+    // A text weighs 5 and its bytes, a list 5 and its items, and null weighs 1: these weigh 4,091.
+    let long = format!(in alloc; "[\"{}\"]", "t".repeat(alloc, 4086)?.as_str())?;
+    let list = format!(in alloc; "[[{}null]]", "null,".repeat(alloc, 4085)?.as_str())?;
+    // These are one within the other, 15 of them.
+    let deep = format!(in alloc;
+        "[{}{}]",
+        "[".repeat(alloc, 15)?.as_str(),
+        "]".repeat(alloc, 15)?.as_str()
+    )?;
+    let fits = "null; 0 looks; 1 writes";
+    let fails = "fails with size; 0 looks; 0 writes";
+    // an argument, what is made of it, and what the body gives that puts it
+    let cases = [
+        (&long, r#"v ++ "12345""#, fits),
+        (&long, r#"v ++ "123456""#, fails),
+        (&list, "v ++ [null, null, null, null, null]", fits),
+        (&list, "v ++ [null, null, null, null, null, null]", fails),
+        (&deep, "[v]", fits),
+        (&deep, "[[v]]", fails),
+    ];
+    for (args, value, want) in cases {
+        let text = format!(in alloc; "table acct; txn f(v) {{ put acct[\"v\"] = {value}; }}")?;
+        let run = ran(alloc, &text, "f", args.as_str(), &view)?;
+        let given = counts_text(alloc, &run)?;
+        assert_eq!(rt; given.as_str(), want, "{value}");
     }
     Ok(())
 }

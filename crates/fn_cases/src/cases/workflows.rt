@@ -93,6 +93,35 @@ flow f(k) {
     Ok(())
 }
 
+// An answer gives none of them back.
+#[test]
+fn the_units_are_those_of_the_whole_body(rt: HostRuntime) -> Result<(), Fail> {
+    let alloc = rt.alloc();
+    // With a list of 999 items each turn takes 1,000.
+    let text = "outside n();
+flow f(l, k, m) {
+  let i = 0;
+  while i < k { each x in l { } set i = i + 1; }
+  do call n();
+  while i < m { each x in l { } set i = i + 1; }
+  return i;
+}";
+    let items = "null,".repeat(alloc, 998)?;
+    // turns before the ask, turns in all, the answers, and how the workflow ends
+    let cases = [
+        (50, 100, "n=null", "done 100"),
+        (50, 101, "n=null", "done fails with budget"),
+        (100, 0, "", "asks 0: outside n []"),
+        (101, 0, "", "done fails with budget"),
+    ];
+    for (before, all, steps, want) in cases {
+        let args = format!(in alloc; "[[{items}null],{before},{all}]")?;
+        let given = ended(alloc, text, "f", &args, steps)?;
+        assert_eq!(rt; given.as_str(), want, "{before} and {all} with {steps}");
+    }
+    Ok(())
+}
+
 #[test]
 fn arguments_are_one_value(rt: HostRuntime) -> Result<(), Fail> {
     let alloc = rt.alloc();
