@@ -8,6 +8,7 @@ mod begin;
 #[cfg(test)]
 mod cases;
 mod check;
+mod command;
 mod counts;
 mod files;
 mod functions;
