@@ -107,7 +107,6 @@ fn ends_alike(alloc: Global, image: &[u8], entries: usize) -> Result<bool, Fail>
         5 => (3, 1),
         _ => (1, 0),
     };
-    let asks: &[&str] = if entries < 5 { &["m1"] } else { &[] };
     let (load, loaded) = if entries < 2 {
         (ACCOUNTS, "{\"entry\":2}\n")
     } else {
@@ -127,7 +126,11 @@ fn ends_alike(alloc: Global, image: &[u8], entries: usize) -> Result<bool, Fail>
         script.as_bytes(),
         &NONE,
     )?;
-    let has_asked = has_told(alloc, &left.desk, asks)?;
+    let has_asked = if entries < 5 {
+        has_told(alloc, &left.desk, &["m1"])?
+    } else {
+        has_told(alloc, &left.desk, &[])?
+    };
     Ok(has_asked && left.status == 0 && left.said.as_slice() == replies.as_bytes())
 }
 
