@@ -1,23 +1,10 @@
 //! A durable execution engine on the command line.
 //!
-//! `top` is the whole program over any disk, output, script and function file; a contract sees its end as
-//! the one that the words, the files and the script reach. `main` hands it the real ones.
+//! `main` hands `top`, which is the whole program, the words and the files of the operating system.
 #![tactic(auto)]
 
-mod begin;
-#[cfg(test)]
-mod cases;
-mod check;
-mod counts;
-mod files;
-mod functions;
-mod generate;
-mod halt;
-mod run;
-mod top;
-
-use crate::top::top;
 use r3_host::{HostDesk, HostShelf, HostSource};
+use r3_top::top;
 use std::alloc::Global;
 use std::io::ErrorKind;
 use std::process::ExitCode;

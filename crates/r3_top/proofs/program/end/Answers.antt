@@ -1,0 +1,17 @@
+use Rattle.std.proofs.Common.{rules, inr, take, drop, refl, ◌∙◌}
+use Rattle.std.proofs.lemmas.List.{take-append-drop}
+use Rattle.r3_top.proofs.top.end.Goals as goal
+
+pub returns-clause-closes : goal.returns-clause-closes
+returns-clause-closes g c =
+    let part = c.in-Err.ensures.part in
+    inr (record {
+      line = take part.0 c.deref.result.now;
+      rest = drop part.0 c.deref.result.now;
+      cut = take-append-drop part.0 c.deref.result.now ∙ c.deref.ensures.value ∙ c.in-Ok.ensures;
+      spoken = λ none. search (rules, none);
+      says = record { told = part.2; asks = c.say.ensures.asked; stored = c.say.ensures.image };
+      answers = inr refl;
+      pending = c.say.ensures.pending;
+      time = c.say.ensures.time;
+    })
