@@ -5,9 +5,9 @@ use Rattle.std.specs.FinMap.Entries.{put}
 use Rattle.r3_pool.specs.Slots.{Fills, next_slot, with_spare}
 use Rattle.r3_chain.specs.Versions.{versions_of, last_upto as upto, IsNext}
 use Rattle.r3_chain.specs.Links.{chain_in}
-use Rattle.r3_chain.specs.Heads.{newest_in, room_in, kept_by, written}
+use Rattle.r3_chain.specs.Heads.{room_in, kept_by, written}
 use Rattle.r3_chain.specs.Sound.{IsSound}
-use Rattle.r3_chain.proofs.AddLemmas.{Adds, with_one, chain_before, added}
+use Rattle.r3_chain.proofs.AddLemmas.{with_one, chain_before, added}
 use Rattle.r3_chain.proofs.RoomLemmas.{view_same}
 use Rattle.r3_chain.proofs.chains.Chains.add.Goals as goal
 
