@@ -201,7 +201,7 @@ fn load_moved(
     }
 }
 
-// One payload more, whose entry is kept or not.
+// The one or the other.
 fn load_either(
     alloc: Global,
     loaded: &mut Loaded,
@@ -256,7 +256,7 @@ fn load_one(
 {
     match load_either(alloc, loaded, keep, count, payload) {
         Ok(()) => Ok(()),
-        Err(fault) => Err(fault_at(fault, count + 1)),
+        Err(fault) => return Err(fault_at(fault, count + 1)),
     }
 }
 
