@@ -1,7 +1,7 @@
 use Rattle.std.proofs.Common.{rules, inr, take, drop, refl, ◌∙◌}
 use Rattle.std.proofs.lemmas.List.{take-append-drop}
 use Rattle.r3_top.proofs.Closing.{has-line}
-use Rattle.r3_top.proofs.top.end.Goals as goal
+use Rattle.r3_top.proofs.program.end.Goals as goal
 
 pub returns-clause-closes : goal.returns-clause-closes
 returns-clause-closes g c =

@@ -11,7 +11,7 @@ use Rattle.r3_top.proofs.Causing.{functions-cause, store-cause, program-cause, l
 use Rattle.r3_top.proofs.Standing.{cause-told, told-done, told-halted, known, only-disk, only-files, only-script}
 use Rattle.r3_top.proofs.Ordering.{own-status, silent-same, at-once, usage-at-once, neither-from, say-tells, fails-to-say}
 use Rattle.r3_top.proofs.Unread.{not-input, not-long}
-use Rattle.r3_top.proofs.top.top.Goals as goal
+use Rattle.r3_top.proofs.program.top.Goals as goal
 
 pub returns-in-Ok-clause-recovers : goal.returns-in-Ok-clause-recovers
 returns-in-Ok-clause-recovers g c = λ functions text turns at there. ⊎_elim (λ b. absurd b) (λ came. inr (None, refl, came)) (c.in-Ok.ensures.recovers functions text turns at there)
