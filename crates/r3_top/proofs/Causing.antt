@@ -144,7 +144,7 @@ input-cause answer halt is at = input-of halt (sym at ∙ own answer halt is (λ
 pub err-same : (a b : Halt) → ◌≡◌ {A = Result (Unit {0}) Halt} (Err a) (Err b) → a ≡ b
 err-same a b is = cc
 
-path-same : (a b : Text) → ◌≡◌ {A = Option Text} (Some a) (Some b) → a ≡ b
+pub path-same : (a b : Text) → ◌≡◌ {A = Option Text} (Some a) (Some b) → a ≡ b
 path-same a b is = cc
 
 no-path : (path : Text) → ◌≡◌ {A = Option Text} None (Some path) → ⊥

@@ -79,6 +79,6 @@ not-accepted text program item kind only sound fault items is =
     none-fault item kind (sym (sound.1 here) ∙ fault)
 
 -- the same of a call that hands it on
-pub miss-of : {A B : Type 0} (result : Result A NoFunctions) (miss : NoFunctions) (handed : Result B NoFunctions) (fault : FunctionsFault)
-    → result ≡ Err miss → handed ≡ Err miss → handed ≡ Err (misses.Refused fault) → result ≡ Err (misses.Refused fault)
-miss-of result miss handed fault a b c = cc
+pub miss-of : {A B : Type 0} (miss : NoFunctions) (fault : FunctionsFault) → ◌≡◌ {A = Result A NoFunctions} (Err miss) (Err (misses.Refused fault))
+    → ◌≡◌ {A = Result B NoFunctions} (Err miss) (Err (misses.Refused fault))
+miss-of miss fault is = cc

@@ -70,7 +70,10 @@ pub fn functions_of(alloc: Global, text: &[u8]) -> Result<Checked, NoFunctions>
         (items : List Item) → IsAccepted text.now items → ⊥ }
 {
     one_reading();
-    let program = program_of(alloc, text)?;
+    let program = match program_of(alloc, text) {
+        Ok(program) => program,
+        Err(miss) => return Err(miss),
+    };
     match check(alloc, program) {
         Ok(checked) => {
             // It tells that the program is sound.
