@@ -215,33 +215,34 @@ module _ (P : Language) (text : Text) (h : List Entry) where
           left-by (lines ++ line ∷ []) after.history ((marks ++ part_marks) ++ mark) n m held_is.len image c held_is.within (subst Of same held_is.held_kept) held_is.history_of,
         )
 
-    -- what a read gives
-    abbrev ReadOf : ℕ → List ℕ → Type 0
-    ReadOf n image = (begun_lines : List Line) × (asked : ℕ) × AreBegun lines line begun_lines × IsLeftBy P text h begun_lines n asked image
-
-    pub stopped-read : (part_calls last : List Call) (part_marks owes : List Mark) (after : State) (said_part : Text) (n most m : ℕ) (image : List ℕ)
+    -- what a read gives, with no more calls asked than are its own
+    pub stopped-read : (part_calls last : List Call) (part_marks owes : List Mark) (after : State) (said_part : Text) (n most m all_calls : ℕ) (image : List ℕ)
         → IsPart P line before after part_calls part_marks last → IsSaid Loud P line before after part_calls part_marks last said_part owes
-        → (said_part ≡ [] → n ≤ most) → most ≤ length (said_of Loud replies)
-        → IsHeld after.history (length h) (marks ++ part_marks) most m image → ((owes ≡ [] → ⊥) → IsHistoryOf after.history image) → ReadOf n image
-    stopped-read part_calls last part_marks owes after said_part n most m image part (inl unsaid) none_said most_is held_is whole =
+        → (said_part ≡ [] → n ≤ most) → most ≤ length (said_of Loud replies) → m ≤ all_calls
+        → IsHeld after.history (length h) (marks ++ (part_marks ++ marks_on after.history last)) most all_calls image
+        → ((owes ≡ [] → ⊥) → IsHistoryOf after.history image) → LeftOf n m image
+    stopped-read part_calls last part_marks owes after said_part n most m all_calls image part (inl unsaid) none_said most_is asked_is held_is whole =
         let d : IsDone part_marks after = done-of line refl part_calls part_marks after last part in
+        let all : List Mark = marks_on after.history last in
         let counted : said_by marks ≡ length (said_of Loud replies) = counts lines before calls marks replies machine in
         let le : n ≤ most = none_said unsaid.0 in
         let few : n ≤ said_by (marks ++ part_marks) = omega (arith, le, most_is, counted, said-more marks part_marks) in
-        let less : owed ((marks ++ part_marks) ++ d.last) n m ≤ owed (marks ++ part_marks) most m = omega (arith, d.unsaid n m few, owed-lower (marks ++ part_marks) n most m le) in
+        let same : owed ((marks ++ part_marks) ++ all) most all_calls ≡ owed (marks ++ (part_marks ++ all)) most all_calls =
+            ap (λ (ms : List Mark). owed ms most all_calls) (append_assoc marks part_marks all) in
+        let less : owed ((marks ++ part_marks) ++ d.last) n m ≤ owed (marks ++ (part_marks ++ all)) most all_calls =
+            omega (arith, d.unsaid n m few, owed-fewer (marks ++ part_marks) all n m, owed-lower ((marks ++ part_marks) ++ all) n most m all_calls le asked_is, same) in
         (
           d.begun_lines,
-          m,
           d.are,
           left-by d.begun_lines after.history ((marks ++ part_marks) ++ d.last) n m held_is.len image d.come held_is.within (held-less (length h) _ _ held_is.len less held_is.held_kept) held_is.history_of,
         )
-    stopped-read part_calls last part_marks owes after said_part n most m image part (inr said) none_said most_is held_is whole =
+    stopped-read part_calls last part_marks owes after said_part n most m all_calls image part (inr said) none_said most_is asked_is held_is whole =
         let reply : Reply = said.2 in
         let mark : List Mark = Said (length (reply_text reply)) (length after.history) ∷ [] in
         let c : HasCome (lines ++ line ∷ []) after.history ((marks ++ part_marks) ++ mark) = whole-come part_calls part_marks after reply said.3 in
         let some : owes ≡ [] → ⊥ = λ none. (let z : mark ≡ [] = sym said.6 ∙ none in cc) in
         let all : IsAllOf P text h (lines ++ line ∷ []) n m image = all-of (lines ++ line ∷ []) after.history ((marks ++ part_marks) ++ mark) n m image c (whole some) in
-        ((lines ++ line ∷ []), m, with_it refl, all.by)
+        ((lines ++ line ∷ []), with_it refl, all.by)
 
   -- ---- an opening
 
@@ -301,16 +302,6 @@ bytes-whole Quiet replies part k le none = omega arith
 pub bytes-most : (voice : Voice) (replies : List Reply) → bytes_of voice (length (said_of voice replies)) ≤ length (said_of Loud replies)
 bytes-most Loud replies = omega arith
 bytes-most Quiet replies = omega arith
-
--- ---- bytes that were said
-
-pub said-within : (before : Option (List ℕ)) (more : List ℕ) (n : ℕ) (now : Option (List ℕ)) → now ≡ told_push before more → n ≤ told_len now → n - told_len before ≤ length more
-said-within None more n now is le =
-    let few : told_len now ≡ 0 = ap (λ (o : Option (List ℕ)). told_len o) is in
-    omega (arith, le, few)
-said-within (Some xs) more n now is le =
-    let all : told_len now ≡ length (xs ++ more) = ap (λ (o : Option (List ℕ)). told_len o) is in
-    omega (arith, le, all, length-append xs more)
 
 -- ---- on one disk
 

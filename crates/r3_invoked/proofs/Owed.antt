@@ -42,17 +42,17 @@ due-lower zero k kept le = omega arith
 due-lower (suc n) zero kept le = absurd (omega (arith, le))
 due-lower (suc n) (suc k) kept le = omega arith
 
--- fewer bytes owe no more
-pub owed-lower : (marks : List Mark) (n k m : ℕ) → n ≤ k → owed marks n m ≤ owed marks k m
-owed-lower [] n k m le = omega arith
-owed-lower (Said bytes kept ∷ marks) n k m le =
-    let rest = owed-lower marks (n - bytes) (k - bytes) m (omega (arith, le)) in
-    let all : ℕ = owed marks (k - bytes) m in
+-- fewer bytes and calls owe no more
+pub owed-lower : (marks : List Mark) (n k m j : ℕ) → n ≤ k → m ≤ j → owed marks n m ≤ owed marks k j
+owed-lower [] n k m j le less = omega arith
+owed-lower (Said bytes kept ∷ marks) n k m j le less =
+    let rest = owed-lower marks (n - bytes) (k - bytes) m j (omega (arith, le)) less in
+    let all : ℕ = owed marks (k - bytes) j in
     max-le (omega (arith, due-lower n k kept le, le-max_left (due k kept) all)) (omega (arith, rest, le-max_right (due k kept) all))
-owed-lower (Asked kept ∷ marks) n k m le =
-    let rest = owed-lower marks n k (m - 1) le in
-    let all : ℕ = owed marks k (m - 1) in
-    max-le (le-max_left (due m kept) all) (omega (arith, rest, le-max_right (due m kept) all))
+owed-lower (Asked kept ∷ marks) n k m j le less =
+    let rest = owed-lower marks n k (m - 1) (j - 1) le (omega (arith, less)) in
+    let all : ℕ = owed marks k (j - 1) in
+    max-le (omega (arith, due-lower m j kept less, le-max_left (due j kept) all)) (omega (arith, rest, le-max_right (due j kept) all))
 
 -- where no reply is said, the marks of calls are all that is owed
 pub owed-quiet : (marks : List Mark) (n m : ℕ) → owed marks 0 m ≤ owed (asked_marks marks) n m

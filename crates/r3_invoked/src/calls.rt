@@ -37,8 +37,8 @@ pub fn calls_fit<D: Desk>()
         × IsLeftBy P text h begun (bytes_of voice (n - told_len (D.said from))) (m - told_len (D.asked from)) image) }
     ensures reads { (from now : D) (P : Language) (voice : Voice) (text : Text) (h : List Entry) (lines : List L) (line : L) (image : List ℕ) →
         Stopped D.image D.moment D.reach D.said D.asked from now P voice text h lines line → D.image now ≡ Some image →
-        (begun : List L) × (asked : ℕ) × AreBegun lines line begun
-        × IsLeftBy P text h begun (bytes_of voice (told_len (D.said now) - told_len (D.said from))) asked image }
+        (begun : List L) × AreBegun lines line begun
+        × IsLeftBy P text h begun (bytes_of voice (told_len (D.said now) - told_len (D.said from))) (told_len (D.asked now) - told_len (D.asked from)) image }
     ensures opening { (from now : D) (P : Language) (text : Text) (h : List Entry) →
         StopsOpening D.image D.moment D.reach D.said D.asked P from now text h →
         LeavesOnly D.moment D.reach from now (λ image n m.
