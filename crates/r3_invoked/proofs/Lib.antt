@@ -1,2 +1,3 @@
 mod Owed
 mod Fitting
+mod Told

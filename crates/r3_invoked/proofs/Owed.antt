@@ -18,7 +18,7 @@ owed-fewer (Asked kept ∷ marks) more n m =
 
 -- a reply behind all bytes that were said owes nothing
 pub owed-unsaid : (marks : List Mark) (bytes kept n m : ℕ) → n ≤ said_by marks → owed (marks ++ Said bytes kept ∷ []) n m ≤ owed marks n m
-owed-unsaid [] bytes kept zero m le = max-le (omega arith) (omega arith)
+owed-unsaid [] bytes kept zero m le = omega arith
 owed-unsaid [] bytes kept (suc n) m le = absurd (omega (arith, le))
 owed-unsaid (Said b k ∷ marks) bytes kept n m le =
     let rest = owed-unsaid marks bytes kept (n - b) m (omega (arith, le)) in

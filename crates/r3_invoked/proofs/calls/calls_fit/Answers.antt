@@ -1,4 +1,4 @@
-use Rattle.std.proofs.Common.{ℕ, ◌-◌, ◌++◌, ⊎_elim, subst, length, List, arith}
+use Rattle.std.proofs.Common.{ℕ, ◌-◌, ◌≤◌, ◌++◌, ⊎_elim, subst, length, List, arith}
 use Rattle.std.proofs.Math.Seq.{take-length}
 use Rattle.r3_entry.specs.declared.entry.Entry.{Entry}
 use Rattle.r3_entry.specs.Image.{IsHistoryOf}
@@ -6,8 +6,8 @@ use Rattle.r3_desk.specs.Disk.{told_len}
 use Rattle.r3_recover.specs.Kept.{marks_on}
 use Rattle.r3_exec.specs.Runs.{language}
 use Rattle.r3_serve.specs.Served.{said_of}
-use Rattle.r3_serve.proofs.Telling.{asked-after, pushed}
 use Rattle.r3_invoked.specs.Left.{bytes_of}
+use Rattle.r3_invoked.proofs.Told.{asked-most, said-most}
 use Rattle.r3_invoked.proofs.Fitting.{all-of, bytes-most, bytes-whole, bytes-within, come-of, held-voice, left-by, opening-left, said-voice, stopped-left, stopped-read}
 use Rattle.r3_invoked.proofs.calls.calls_fit.Goals as goal
 
@@ -39,8 +39,8 @@ returns-clause-stops g c = λ from now P voice text h lines line w. record {
       let x = w.leaves.each image n m r in
       let bytes : ℕ = n - told_len (g.D.Desk.said from) in
       let calls : ℕ = m - told_len (g.D.Desk.asked from) in
-      let told = pushed (g.D.Desk.said from) (g.D.Desk.said now) (said_of voice w.replies ++ w.said_part) w.told in
-      let most : bytes ≤ length (said_of voice w.replies ++ w.said_part) = omega (arith, x.1, told.few) in
+      let told = said-most (g.D.Desk.said from) (g.D.Desk.said now) (said_of voice w.replies ++ w.said_part) w.told in
+      let most : bytes ≤ length (said_of voice w.replies ++ w.said_part) = omega (arith, x.1, told) in
       stopped-left P text h lines line w.calls w.marks w.before w.replies w.machine w.part_calls w.last w.part_marks w.owes w.after w.said_part
       (bytes_of voice bytes) calls image w.part (said-voice voice P line w.before w.after w.part_calls w.part_marks w.last w.said_part w.owes w.said_is)
       (bytes-within voice w.replies w.said_part bytes most)
@@ -53,10 +53,10 @@ returns-clause-reads g c = λ from now P voice text h lines line image w is.
     let calls : ℕ = told_len (g.D.Desk.asked now) - told_len (g.D.Desk.asked from) in
     let replied : ℕ = length (said_of voice w.replies) in
     let all_calls = w.calls ++ (w.part_calls ++ w.last) in
-    let told = pushed (g.D.Desk.said from) (g.D.Desk.said now) (said_of voice w.replies ++ w.said_part) w.told in
-    let asks = asked-after (g.D.Desk.asked from) (g.D.Desk.asked now) all_calls w.asks in
-    let most : bytes ≤ length (said_of voice w.replies ++ w.said_part) = omega (arith, told.few) in
-    let most_calls : calls ≤ length all_calls = omega (arith, asks.few) in
+    let told = said-most (g.D.Desk.said from) (g.D.Desk.said now) (said_of voice w.replies ++ w.said_part) w.told in
+    let asks = asked-most (g.D.Desk.asked from) (g.D.Desk.asked now) all_calls w.asks in
+    let most : bytes ≤ length (said_of voice w.replies ++ w.said_part) = omega (arith, told) in
+    let most_calls : calls ≤ length all_calls = omega (arith, asks) in
     stopped-read P text h lines line w.calls w.marks w.before w.replies w.machine w.part_calls w.last w.part_marks w.owes w.after w.said_part
     (bytes_of voice bytes) (bytes_of voice replied) calls (length all_calls) image w.part
     (said-voice voice P line w.before w.after w.part_calls w.part_marks w.last w.said_part w.owes w.said_is)
