@@ -1,19 +1,16 @@
 -- What is said of a call makes it one that goes by the machine.
-use Rattle.std.proofs.Common.{◌≡◌, ◌⊎◌, inl, inr, ⊎_elim, ℕ, ◌+◌, ◌-◌, ◌≤◌, List, [], ◌∷◌, ◌++◌, map, take, length, Option, Some, None, refl, sym, subst, ap, ◌∙◌, arith, length-append}
-use Rattle.std.specs.Prelude.{fold, max, flat_map}
+use Rattle.std.proofs.Common.{◌≡◌, ◌⊎◌, inl, inr, ℕ, ◌≤◌, List, [], ◌∷◌, ◌++◌, map, take, length, Option, refl, sym, subst, ap, ◌∙◌, arith}
+use Rattle.std.specs.Prelude.{flat_map}
 use Rattle.std.proofs.Math.Nat.{max-le}
 use Rattle.std.proofs.lemmas.List.{append_assoc, append-nil, take-append-le}
 use Rattle.std.proofs.lemmas.List.Sums.{fold-append}
 use Rattle.r3_value.specs.declared.value.Outcome.{Outcome}
 use Rattle.r3_entry.specs.declared.entry.Entry.{Entry}
 use Rattle.r3_entry.specs.Image.{IsHistoryOf}
-use Rattle.r3_desk.specs.Asked as desk
-use Rattle.r3_desk.specs.Crash.{Reach, LeavesOnly}
-use Rattle.r3_desk.specs.Disk.{told_len, told_push}
 use Rattle.r3_model.specs.Language.{Text, Language}
 use Rattle.sys_flow.specs.declared.command.Command.TheVariants.{Recover}
-use Rattle.r3_model.specs.Event.{Event, Run, Reply, Call}
-use Rattle.r3_model.specs.Held.{Mark, Said, Asked, said_by, owed, held}
+use Rattle.r3_model.specs.Event.{Run, Reply, Call}
+use Rattle.r3_model.specs.Held.{Mark, Said, said_by, owed, held}
 use Rattle.r3_model.specs.Machine.{State}
 use Rattle.r3_model.specs.Replies.{reply_text}
 use Rattle.r3_model.specs.Run.{Trail, from_state, restarted, next, run, pending_ids}
@@ -23,10 +20,9 @@ use Rattle.r3_recover.specs.Drained.{Drains, answers_of}
 use Rattle.r3_recover.specs.Kept.{marks_on}
 use Rattle.r3_recover.specs.Opened.{OpensTo}
 use Rattle.r3_session.specs.Answered.{AnswersTo, IsPart}
-use Rattle.r3_session.specs.Begun.{StopsOpening}
 use Rattle.r3_serve.specs.Held.{IsHeld, asked_marks}
-use Rattle.r3_serve.specs.Served.{Voice, Loud, Quiet, said_of, marks_of, IsTold, Calls, IsSaid}
-use Rattle.r3_repeats.specs.Invocations.{Invocation, told_in, GoesByMachine, IsWhole, AreOnOneStore}
+use Rattle.r3_serve.specs.Served.{Voice, Loud, Quiet, said_of, marks_of, Calls, IsSaid}
+use Rattle.r3_repeats.specs.Invocations.{Invocation, IsWhole, AreOnOneStore}
 use Rattle.r3_repeats.proofs.Placing.{begun, Counted, lines-counted, begun-counted}
 use Rattle.r3_repeats.proofs.Holding.{called-grows, whole-goes}
 use Rattle.r3_repeats.proofs.Growing.{Grows, grows-longer}
@@ -191,11 +187,10 @@ module _ (P : Language) (text : Text) (h : List Entry) where
         let d : IsDone part_marks after = done-of line refl part_calls part_marks after last part in
         let all : List Mark = marks_on after.history last ++ owes in
         let bytes : length (said_of Loud replies ++ said_part) ≡ said_by marks =
-            ap (λ (s : Text). length (said_of Loud replies ++ s)) unsaid.0 ∙ ap (λ (s : Text). length s) (append-nil (said_of Loud replies)) ∙ sym (counts lines before calls marks replies machine) in
+        ap (λ (s : Text). length (said_of Loud replies ++ s)) unsaid.0 ∙ ap (λ (s : Text). length s) (append-nil (said_of Loud replies)) ∙ sym (counts lines before calls marks replies machine) in
         let few : n ≤ said_by (marks ++ part_marks) = omega (arith, le, bytes, said-more marks part_marks) in
         let same : owed ((marks ++ part_marks) ++ all) n m ≡ owed (marks ++ (part_marks ++ all)) n m = ap (λ (ms : List Mark). owed ms n m) (append_assoc marks part_marks all) in
-        let less : owed ((marks ++ part_marks) ++ d.last) n m ≤ owed (marks ++ (part_marks ++ all)) n m = omega (arith, d.unsaid n m few, owed-fewer (marks ++ part_marks) all n m, same) in
-        (
+        let less : owed ((marks ++ part_marks) ++ d.last) n m ≤ owed (marks ++ (part_marks ++ all)) n m = omega (arith, d.unsaid n m few, owed-fewer (marks ++ part_marks) all n m, same) in (
           d.begun_lines,
           d.are,
           left-by d.begun_lines after.history ((marks ++ part_marks) ++ d.last) n m held_is.len image d.come held_is.within (held-less (length h) _ _ held_is.len less held_is.held_kept) held_is.history_of,
@@ -205,11 +200,10 @@ module _ (P : Language) (text : Text) (h : List Entry) where
         let mark : List Mark = Said (length (reply_text reply)) (length after.history) ∷ [] in
         let c : HasCome (lines ++ line ∷ []) after.history ((marks ++ part_marks) ++ mark) = whole-come part_calls part_marks after reply whole.3 in
         let same : marks ++ (part_marks ++ (marks_on after.history last ++ owes)) ≡ (marks ++ part_marks) ++ mark =
-            ap (λ (ks : List Call). marks ++ (part_marks ++ (marks_on after.history ks ++ owes))) whole.1
-            ∙ ap (λ (ms : List Mark). marks ++ (part_marks ++ ms)) whole.6
-            ∙ sym (append_assoc marks part_marks mark) in
-        let Of : List Mark → Type 0 = λ ms. held (length h) ms n m ≤ held_is.len in
-        (
+        ap (λ (ks : List Call). marks ++ (part_marks ++ (marks_on after.history ks ++ owes))) whole.1
+        ∙ ap (λ (ms : List Mark). marks ++ (part_marks ++ ms)) whole.6
+        ∙ sym (append_assoc marks part_marks mark) in
+        let Of : List Mark → Type 0 = λ ms. held (length h) ms n m ≤ held_is.len in (
           (lines ++ line ∷ []),
           with_it refl,
           left-by (lines ++ line ∷ []) after.history ((marks ++ part_marks) ++ mark) n m held_is.len image c held_is.within (subst Of same held_is.held_kept) held_is.history_of,
@@ -228,10 +222,9 @@ module _ (P : Language) (text : Text) (h : List Entry) where
         let le : n ≤ most = none_said unsaid.0 in
         let few : n ≤ said_by (marks ++ part_marks) = omega (arith, le, most_is, counted, said-more marks part_marks) in
         let same : owed ((marks ++ part_marks) ++ all) most all_calls ≡ owed (marks ++ (part_marks ++ all)) most all_calls =
-            ap (λ (ms : List Mark). owed ms most all_calls) (append_assoc marks part_marks all) in
+        ap (λ (ms : List Mark). owed ms most all_calls) (append_assoc marks part_marks all) in
         let less : owed ((marks ++ part_marks) ++ d.last) n m ≤ owed (marks ++ (part_marks ++ all)) most all_calls =
-            omega (arith, d.unsaid n m few, owed-fewer (marks ++ part_marks) all n m, owed-lower ((marks ++ part_marks) ++ all) n most m all_calls le asked_is, same) in
-        (
+        omega (arith, d.unsaid n m few, owed-fewer (marks ++ part_marks) all n m, owed-lower ((marks ++ part_marks) ++ all) n most m all_calls le asked_is, same) in (
           d.begun_lines,
           d.are,
           left-by d.begun_lines after.history ((marks ++ part_marks) ++ d.last) n m held_is.len image d.come held_is.within (held-less (length h) _ _ held_is.len less held_is.held_kept) held_is.history_of,
@@ -264,7 +257,7 @@ module _ (P : Language) (text : Text) (h : List Entry) where
       let history : after.history ≡ h = ap (λ (st : State). st.history) same in
       let short : len ≤ length h = omega (arith, within, ap (λ (es : List Entry). length es) history) in
       let first : take len after.history ≡ take len last =
-          ap (λ (es : List Entry). take len es) history ∙ sym (take-append-le len h grows.entries short) ∙ ap (λ (es : List Entry). take len es) (sym grows.is) in
+      ap (λ (es : List Entry). take len es) history ∙ sym (take-append-le len h grows.entries short) ∙ ap (λ (es : List Entry). take len es) (sym grows.is) in
       let Of : List Entry → Type 0 = λ es. IsHistoryOf es image in
       let c : HasCome [] last [] = record { answers = []; history_is = refl; marks_are = opened-marks h [] } in
       left-by [] last [] n m len image c (omega (arith, short, grows-longer P h last grows)) (max-le kept (omega arith)) (subst Of first is)
@@ -295,7 +288,7 @@ bytes-within Quiet replies part k le = omega arith
 pub bytes-whole : (voice : Voice) (replies : List Reply) (part : Text) (k : ℕ) → k ≤ length (said_of voice replies ++ part) → part ≡ [] → bytes_of voice k ≤ bytes_of voice (length (said_of voice replies))
 bytes-whole Loud replies part k le none =
     let all : length (said_of Loud replies ++ part) ≡ length (said_of Loud replies) =
-        ap (λ (s : Text). length (said_of Loud replies ++ s)) none ∙ ap (λ (s : Text). length s) (append-nil (said_of Loud replies)) in
+    ap (λ (s : Text). length (said_of Loud replies ++ s)) none ∙ ap (λ (s : Text). length s) (append-nil (said_of Loud replies)) in
     omega (arith, le, all)
 bytes-whole Quiet replies part k le none = omega arith
 

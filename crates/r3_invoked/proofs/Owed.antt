@@ -1,8 +1,8 @@
 -- What is owed by fewer marks, and by a reply of which no byte was said.
-use Rattle.std.proofs.Common.{◌≡◌, ℕ, suc, zero, ◌+◌, ◌-◌, ◌≤◌, List, [], ◌∷◌, ◌++◌, length, ap, arith}
+use Rattle.std.proofs.Common.{◌≡◌, ℕ, suc, zero, ◌-◌, ◌≤◌, List, [], ◌∷◌, ◌++◌, ap, arith}
 use Rattle.std.specs.Prelude.{max}
 use Rattle.std.proofs.Math.Nat.{le-max_left, le-max_right, max-le}
-use Rattle.r3_model.specs.Held.{Mark, Said, Asked, said_by, due, owed, held}
+use Rattle.r3_model.specs.Held.{Mark, Said, Asked, said_by, due, owed}
 use Rattle.r3_serve.specs.Held.{asked_marks}
 
 pub owed-fewer : (marks more : List Mark) (n m : ℕ) → owed marks n m ≤ owed (marks ++ more) n m

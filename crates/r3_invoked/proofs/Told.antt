@@ -1,5 +1,5 @@
 -- How much more a desk tells.
-use Rattle.std.proofs.Common.{◌≡◌, ℕ, ◌+◌, ◌≤◌, List, ◌++◌, map, length, Option, Some, None, sym, subst, arith, length-append}
+use Rattle.std.proofs.Common.{◌≡◌, ◌+◌, ◌≤◌, List, map, length, Option, Some, None, sym, subst, arith, length-append}
 use Rattle.std.proofs.lemmas.List.{length-map}
 use Rattle.r3_desk.specs.Asked as desk
 use Rattle.r3_desk.specs.Disk.{told_len, told_push}

@@ -1,16 +1,20 @@
-//! The service's calls, as calls on one store.
+//! The program's calls, as calls on one store.
 
-ghost use Rattle.std.specs.Prelude.{◌≡◌, ◌-◌, ℕ, List, [], Some, ◌⊎◌};
+ghost use Rattle.std.specs.Prelude.{◌≡◌, ◌-◌, ℕ, List, [], Some, ◌⊎◌, length};
 ghost use Rattle.r3_desk.specs.Crash.{LeavesOnly};
 ghost use Rattle.r3_desk.specs.Disk.{told_len};
 ghost use Rattle.r3_entry.specs.declared.entry.Entry.{Entry};
 ghost use Rattle.r3_entry.specs.Image.{IsHistoryOf};
+ghost use Rattle.r3_model.specs.Event.{Call, Reply};
+ghost use Rattle.r3_model.specs.Held.{Mark};
 ghost use Rattle.r3_model.specs.Language.{Language, Text};
+ghost use Rattle.r3_model.specs.Machine.{State};
 ghost use Rattle.r3_model.specs.Script.{Line as L};
 ghost use Rattle.r3_exec.specs.Runs.{language};
 ghost use Rattle.r3_exec.specs.declared.exec.Exec.{Exec};
 ghost use Rattle.r3_session.specs.Begun.{StopsOpening};
-ghost use Rattle.r3_serve.specs.Served.{Voice, Served, Stopped};
+ghost use Rattle.r3_serve.specs.Held.{IsHeld};
+ghost use Rattle.r3_serve.specs.Served.{Calls, Voice, Served, Stopped};
 ghost use Rattle.r3_repeats.specs.Invocations.{Invocation, AreOnOneStore};
 ghost use Rattle.r3_invoked.specs.Left.{AreBegun, AreOnOneDisk, IsAllOf, IsLeftBy, bytes_of};
 
@@ -18,7 +22,7 @@ use r3_desk::Desk;
 use r3_entry::one_history;
 use r3_store::reads_as_settled;
 
-/// A call of the service goes by the machine: one that answered its lines, at its end and at any moment
+/// A call of the program goes by the machine: one that answered its lines, at its end and at any moment
 /// before, and one that ended early, in its opening or within a line. Its replies are said or, as the
 /// generator's, not.
 pub fn calls_fit<D: Desk>()
@@ -46,6 +50,15 @@ pub fn calls_fit<D: Desk>()
     ensures opening_reads { (from now : D) (P : Language) (text : Text) (h : List Entry) (n m : ℕ) (image : List ℕ) →
         StopsOpening D.image D.moment D.reach D.said D.asked P from now text h → D.image now ≡ Some image →
         IsLeftBy P text h [] n m image }
+
+    // So does any call of which the machine's calls, marks and replies are told, as the program tells them of its own.
+    ensures answered { (P : Language) (text : Text) (h : List Entry) (lines : List L) (after : State) (calls : List Call)
+        (marks : List Mark) (replies : List Reply) (n m : ℕ) (image : List ℕ) →
+        Calls P text h lines after calls marks replies → IsHistoryOf after.history image → IsAllOf P text h lines n m image }
+    ensures held { (P : Language) (text : Text) (h : List Entry) (lines : List L) (after : State) (calls : List Call)
+        (marks : List Mark) (replies : List Reply) (n m : ℕ) (image : List ℕ) →
+        Calls P text h lines after calls marks replies → IsHeld after.history (length h) marks n m image →
+        IsLeftBy P text h lines n m image }
 {
     reads_as_settled::<D>();
 }

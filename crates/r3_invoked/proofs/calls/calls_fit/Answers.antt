@@ -76,3 +76,11 @@ pub returns-clause-opening_reads : goal.returns-clause-opening_reads
 returns-clause-opening_reads g c = λ from now P text h n m image s told.
     let kept = s.reads image told in
     opening-left P text h s.after n m kept.len image s.part kept.within kept.settled_kept kept.history_of
+
+pub returns-clause-answered : goal.returns-clause-answered
+returns-clause-answered g c = λ P text h lines after calls marks replies n m image machine is.
+    all-of P text h lines after.history marks n m image (come-of P text h lines after calls marks replies machine) is
+
+pub returns-clause-held : goal.returns-clause-held
+returns-clause-held g c = λ P text h lines after calls marks replies n m image machine held_is.
+    left-by P text h lines after.history marks n m held_is.len image (come-of P text h lines after calls marks replies machine) held_is.within held_is.held_kept held_is.history_of
