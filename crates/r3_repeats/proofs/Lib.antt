@@ -2,12 +2,12 @@ mod Same
 mod Writing
 mod Keeping
 mod Bringing
-mod Growing
+pub mod Growing
 mod Beginning
 mod Firsts
 mod Telling
-mod Placing
-mod Holding
+pub mod Placing
+pub mod Holding
 mod Storing
 mod Worked
 mod WorkedStarts

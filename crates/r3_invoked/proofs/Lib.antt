@@ -1,0 +1,3 @@
+mod Owed
+mod Fitting
+mod Told
