@@ -3,3 +3,4 @@ pub mod Flows
 pub mod Kept
 pub mod Comes
 pub mod Done
+pub mod Cases
