@@ -3,4 +3,3 @@ pub mod Flows
 pub mod Kept
 pub mod Comes
 pub mod Done
-pub mod Cases

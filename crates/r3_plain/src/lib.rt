@@ -6,7 +6,6 @@
 #![tactic(auto)]
 
 mod answers;
-mod begin;
 mod came;
 mod commands;
 mod declared;
@@ -28,12 +27,8 @@ mod turned;
 mod txns;
 mod writes;
 
-pub use begin::begin;
 pub use event::Event;
 pub use flows::pending;
 pub use reply::{Call, Limit, Out, Reply};
 pub use state::State;
 pub use stepping::step;
-
-#[cfg(test)]
-mod cases;
