@@ -1,5 +1,5 @@
 -- Events that fit a history that isn't empty.
-use Rattle.std.proofs.Common.{◌≢◌, List, [], ⊤, tt, absurd}
+use Rattle.std.proofs.Common.{◌≢◌, List, [], absurd}
 use Rattle.r3_entry.specs.declared.entry.Entry.{Entry}
 use Rattle.r3_model.specs.Fits.{Fits}
 use Rattle.r3_plain.specs.Words.{event_of}
