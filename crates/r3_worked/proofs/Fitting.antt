@@ -1,5 +1,5 @@
 -- Events that fit a history that isn't empty.
-use Rattle.std.proofs.Common.{◌≢◌, List, [], absurd}
+use Rattle.std.proofs.Common.{◌≢◌, List, []}
 use Rattle.r3_entry.specs.declared.entry.Entry.{Entry}
 use Rattle.r3_model.specs.Fits.{Fits}
 use Rattle.r3_plain.specs.Words.{event_of}
@@ -8,7 +8,7 @@ use Rattle.r3_plain.specs.declared.event.Event.TheVariants as events
 use Rattle.r3_worked.specs.Later.{FitsLater}
 
 pub fits_later : (h : List Entry) (e : Event) → h ≢ [] → FitsLater e → Fits h (event_of e)
-fits_later h (events.Append text) some no = absurd no
+fits_later h (events.Append text) some none = absurd none
 fits_later h (events.Run command) some fit = (some, fit)
 fits_later h (events.Turn id) some fit = fit
 fits_later h (events.Dequeue queue) some fit = some

@@ -1,4 +1,4 @@
-use Rattle.std.proofs.Common.{◌≡◌, ◌≤◌, List, ℕ, [], length, refl, sym, ap, ◌∙◌, subst, arith}
+use Rattle.std.proofs.Common.{[], refl, sym, ap, ◌∙◌, subst, arith}
 use Rattle.r3_entry.specs.Limits.{IsSized}
 use Rattle.r3_model.specs.Event.{Append}
 use Rattle.r3_model.specs.Fits.{Fits}
@@ -13,13 +13,8 @@ step-requires-clause-fits c =
     let sized : IsSized 0 1048576 c.args.text = record { long = omega arith; short = c.requires.short; utf8 = c.as_str-text.ensures.utf8 } in
     subst (λ (st : State). Fits st.history (Append c.args.text)) (sym c.new-state.ensures.state) (refl, sized)
 
-pub returns-in-Ok-clause-state : goal.returns-in-Ok-clause-state
-returns-in-Ok-clause-state c =
-    sym (ap (λ (o : Out). o.state)
-    (ap (λ (st : State). step (language_of c.args.program.now) st (Append c.args.text) []) (sym c.new-state.ensures.state) ∙ c.in-Ok.ensures.step))
-
-pub returns-in-Ok-clause-valid : goal.returns-in-Ok-clause-valid
-returns-in-Ok-clause-valid c =
+pub returns-in-Ok : goal.returns-in-Ok
+returns-in-Ok c =
     let sized : IsSized 0 1048576 c.args.text = record { long = omega arith; short = c.requires.short; utf8 = c.as_str-text.ensures.utf8 } in
     let is = ap (λ (st : State). step (language_of c.args.program.now) st (Append c.args.text) []) (sym c.new-state.ensures.state) ∙ c.in-Ok.ensures.step in
     subst (λ (o : Out). IsValid (language_of c.args.program.now) o.state) is
