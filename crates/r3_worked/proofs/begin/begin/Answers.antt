@@ -17,6 +17,8 @@ pub returns-in-Ok : goal.returns-in-Ok
 returns-in-Ok c =
     let sized : IsSized 0 1048576 c.args.text = record { long = omega arith; short = c.requires.short; utf8 = c.as_str-text.ensures.utf8 } in
     let is = ap (λ (st : State). step (language_of c.args.program.now) st (Append c.args.text) []) (sym c.new-state.ensures.state) ∙ c.in-Ok.ensures.step in
-    subst (λ (o : Out). IsValid (language_of c.args.program.now) o.state) is
-    (c.keeps_valid.ensures.begins (language_of c.args.program.now) c.args.text (c.programs_are_lawful.ensures c.args.program.now)
-    (c.programs_are_limited.ensures c.args.program.now c.program.ensures.sound c.holds_values.ensures) (refl, sized))
+    record {
+      valid = subst (λ (o : Out). IsValid (language_of c.args.program.now) o.state) is
+          (c.keeps_valid.ensures.begins (language_of c.args.program.now) c.args.text (c.programs_are_lawful.ensures c.args.program.now)
+          (c.programs_are_limited.ensures c.args.program.now c.program.ensures.sound c.holds_values.ensures) (refl, sized));
+    }
