@@ -8,3 +8,4 @@ pub mod RangeLemmas
 pub mod TrimLemmas
 pub mod ForestLemmas
 pub mod TwinLemmas
+pub mod AddLemmas

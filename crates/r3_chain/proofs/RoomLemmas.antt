@@ -23,7 +23,7 @@ use Rattle.r3_chain.proofs.SoundLemmas.{no_chain, head_chain}
 differ : (a b : ℕ) → a ≢ b → nat_eq a b ≡ false
 differ a b ne = elim (eqb_tells a b) [ inl t ↦ absurd (ne t.1) | inr t ↦ t.0 ]
 
-roomed_newest : (round next : ℕ) (f : Option Head) → (roomed round next f).newest ≡ newest_in f
+pub roomed_newest : (round next : ℕ) (f : Option Head) → (roomed round next f).newest ≡ newest_in f
 roomed_newest round next None = refl
 roomed_newest round next (Some h) = refl
 

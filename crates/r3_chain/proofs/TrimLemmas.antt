@@ -1,13 +1,13 @@
 -- A chain that is cut behind one of its versions.
 use Rattle.std.proofs.Common.{◌≡◌, ◌≢◌, ℕ, ◌+◌, ◌<◌, ◌≤◌, zero, suc, true, false, cond, List, [], ◌∷◌, length, Option, Some, None, refl, sym, ap, ◌∙◌, subst, arith, inl, inr}
 use Rattle.std.proofs.lemmas.Bool.Decides.{eqb_tells, nat_tests}
-use Rattle.std.specs.Prelude.{nat_eq, nat_le}
+use Rattle.std.specs.Prelude.{nat_eq, nat_le, is_some}
 use Rattle.std.proofs.Common.{◌++◌, ◌-◌, get_or, length-append}
 use Rattle.std.proofs.Math.Seq.{get_or-append_seam}
 use Rattle.r3_pool.specs.Slots.{Slots, Fills, Empties, value_at, live_count, next_slot, after_put, after_take}
 use Rattle.r3_chain.specs.Versions.{Version, trimmed}
 use Rattle.r3_chain.specs.Links.{Cells, Placed, onto, trace, ends_with, Ends, versions_in, visits}
-use Rattle.r3_chain.specs.Cuts.{cut_at, behind, first_slot, IsLine, Frees, EndsAt, Trims}
+use Rattle.r3_chain.specs.Cuts.{cut_at, behind, slot_before, cut_slot, IsLine, Frees, EndsAt, Trims}
 use Rattle.r3_chain.specs.declared.node.Node.{Node}
 use Rattle.r3_chain.proofs.LinkLemmas.{trace_longer, trace_step, trace_stays, nothing, seen_same, seen_other, one}
 
@@ -95,10 +95,42 @@ module _ {V : Type 0} where
           let none : visits s (trace n (value_at old) from) ≡ 0 = subst (λ u. visits u (trace n (value_at old) from) ≡ 0) q off in
           omega arith
 
-  pub slot_later : (oldest : ℕ) (p : Placed V) (ps : List (Placed V)) → oldest < p.1.0 → first_slot oldest (p ∷ ps) ≡ first_slot oldest ps
+  -- the slot of the last version up to the index
+  abbrev pub first_slot : ℕ → List (Placed V) → Option ℕ
+  first_slot oldest [] = None
+  first_slot oldest (p ∷ ps) = cond (nat_le p.1.0 oldest) (Some p.0) (first_slot oldest ps)
+
+  pub slot_later : (oldest : ℕ) (p : Placed V) (ps : List (Placed V)) → oldest < p.1.0 → cut_slot oldest (p ∷ ps) ≡ cut_slot oldest ps
   slot_later oldest p ps lt =
       let later : nat_le p.1.0 oldest ≡ false = grind (arith, nat_tests) in
-      ap (λ b. cond b (Some p.0) (first_slot oldest ps)) later
+      ap (λ b. cond b (slot_before p.0 ps) (cut_slot oldest ps)) later
+
+  pub slot_here : (oldest : ℕ) (p : Placed V) (ps : List (Placed V)) → p.1.0 ≤ oldest → cut_slot oldest (p ∷ ps) ≡ slot_before p.0 ps
+  slot_here oldest p ps le =
+      let first : nat_le p.1.0 oldest ≡ true = grind (arith, nat_tests) in
+      ap (λ b. cond b (slot_before p.0 ps) (cut_slot oldest ps)) first
+
+  pub before_some : (n s : ℕ) (a : Cells V) (o : Option ℕ) → is_some o ≡ true → Ends n a o → slot_before s (trace n a o) ≡ Some s
+  before_some n s a None is ends = absurd cc
+  before_some zero s a (Some t) is ends = absurd cc
+  before_some (suc n) s a (Some t) is ends =
+      elim (a t) as (λ m. ends_with (Some t) m (Ends n a) → slot_before s (onto (Some t) m (trace n a)) ≡ Some s) [ None ↦ λ e. absurd e | Some node ↦ λ e. refl ] ends
+
+  pub before_none : (n s : ℕ) (a : Cells V) (o : Option ℕ) → is_some o ≡ false → slot_before s (trace n a o) ≡ None
+  before_none n s a None is = ap (slot_before s) (nothing n a).0
+  before_none n s a (Some t) is = absurd cc
+
+  pub first_of_cut : (oldest s : ℕ) (ps : List (Placed V)) → cut_slot oldest ps ≡ Some s → first_slot oldest ps ≡ Some s
+  first_of_cut oldest s [] is = absurd cc
+  first_of_cut oldest s (p ∷ ps) is =
+      elim (nat_le p.1.0 oldest) as (λ b. cond b (slot_before p.0 ps) (cut_slot oldest ps) ≡ Some s → cond b (Some p.0) (first_slot oldest ps) ≡ Some s) [
+        | true ↦ before p.0 ps
+        | false ↦ λ e. first_of_cut oldest s ps e
+      ] is
+    where
+      before : (t : ℕ) (qs : List (Placed V)) → slot_before t qs ≡ Some s → Some t ≡ Some s
+      before t [] e = absurd cc
+      before t (q ∷ qs) e = e
 
   first_visited : (oldest s : ℕ) (ps : List (Placed V)) → first_slot oldest ps ≡ Some s → 0 < visits s ps
   first_visited oldest s [] is = absurd cc
@@ -130,13 +162,17 @@ module _ {V : Type 0} where
   pub cut_shorter : (oldest : ℕ) (ps : List (Placed V)) → length (cut_at oldest ps) ≤ length ps
   cut_shorter oldest ps = let both : length (cut_at oldest ps) + length (behind oldest ps) ≡ length ps = cut_length oldest ps in omega arith
 
-  pub uncut : (oldest : ℕ) (ps : List (Placed V)) → first_slot oldest ps ≡ None → cut_at oldest ps ≡ ps
+  pub uncut : (oldest : ℕ) (ps : List (Placed V)) → cut_slot oldest ps ≡ None → cut_at oldest ps ≡ ps
   uncut oldest [] is = refl
   uncut oldest (p ∷ ps) is =
-      elim (nat_le p.1.0 oldest) as (λ b. cond b (Some p.0) (first_slot oldest ps) ≡ None → cond b (p ∷ []) (p ∷ cut_at oldest ps) ≡ p ∷ ps) [
-        | true ↦ λ e. absurd cc
+      elim (nat_le p.1.0 oldest) as (λ b. cond b (slot_before p.0 ps) (cut_slot oldest ps) ≡ None → cond b (p ∷ []) (p ∷ cut_at oldest ps) ≡ p ∷ ps) [
+        | true ↦ alone ps
         | false ↦ λ e. ap (λ qs. p ∷ qs) (uncut oldest ps e)
       ] is
+    where
+      alone : (qs : List (Placed V)) → slot_before p.0 qs ≡ None → p ∷ [] ≡ p ∷ qs
+      alone [] e = refl
+      alone (q ∷ qs) e = absurd cc
 
   pub versions-cut_at : (oldest : ℕ) (ps : List (Placed V)) → versions_in (cut_at oldest ps) ≡ trimmed oldest (versions_in ps)
   versions-cut_at oldest [] = refl
@@ -225,8 +261,8 @@ module _ {V : Type 0} where
             ] p keeps
       ] refl is ends once others
 
-  -- a chain without a version up to the index stays
-  pub trims_nothing : (n oldest : ℕ) (o : Option ℕ) (old : Slots (Node V)) → Ends n (value_at old) o → first_slot oldest (trace n (value_at old) o) ≡ None → Trims n oldest o old old
+  -- a chain stays that has no version up to the index, or nothing behind it
+  pub trims_nothing : (n oldest : ℕ) (o : Option ℕ) (old : Slots (Node V)) → Ends n (value_at old) o → cut_slot oldest (trace n (value_at old) o) ≡ None → Trims n oldest o old old
   trims_nothing n oldest o old ends none =
       let same : cut_at oldest (trace n (value_at old) o) ≡ trace n (value_at old) o = uncut oldest (trace n (value_at old) o) none in
       let long : length (cut_at oldest (trace n (value_at old) o)) ≡ length (trace n (value_at old) o) = ap length same in

@@ -18,10 +18,15 @@ module _ {V : Type 0} where
   behind oldest [] = []
   behind oldest (p ∷ ps) = cond (nat_le p.1.0 oldest) ps (behind oldest ps)
 
-  -- the slot of the last version up to the index
-  abbrev pub first_slot : ℕ → List (Placed V) → Option ℕ
-  first_slot oldest [] = None
-  first_slot oldest (p ∷ ps) = cond (nat_le p.1.0 oldest) (Some p.0) (first_slot oldest ps)
+  -- the slot, where there are versions behind it
+  abbrev pub slot_before : ℕ → List (Placed V) → Option ℕ
+  slot_before s [] = None
+  slot_before s (p ∷ ps) = Some s
+
+  -- the slot of the last version up to the index, where it has others behind it
+  abbrev pub cut_slot : ℕ → List (Placed V) → Option ℕ
+  cut_slot oldest [] = None
+  cut_slot oldest (p ∷ ps) = cond (nat_le p.1.0 oldest) (slot_before p.0 ps) (cut_slot oldest ps)
 
   -- a whole chain that comes to each slot once
   pub record IsLine (n : ℕ) (cells : Cells V) (o : Option ℕ) : Type 0 where

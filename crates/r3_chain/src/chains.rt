@@ -5,8 +5,8 @@ ghost use Rattle.std.specs.Option.{option_map, option_map_or};
 ghost use Rattle.std.specs.FinMap.{IsAntisymmetric};
 ghost use Rattle.r3_chain.specs.Versions.{first_past as past, kept_count, versions_of, installed, IsNext, has_room, without, key_set, version_at, present, range_at, trimmed_all};
 
-use crate::head::{Head, give_rooms, newest, replace_newest};
-use crate::node::{Node, first_past, last_upto, present_upto};
+use crate::head::{Head, give_rooms, newest, push_newest, replace_newest};
+use crate::node::{Node, first_past, last_upto, present_upto, put_version, version_upto};
 use crate::trim::trim_heads;
 use r3_pool::{Pool, PoolFault};
 use r3_value::Memory;
@@ -110,6 +110,36 @@ impl<K: Ord + Drop, V: Drop> Chains<K, V> {
         });
     }
 
+    /// Adds a version of a key that needs no room made before: it is `reserve` of this key alone and
+    /// `install` at one look-up, so no key has room then. It tells the version before, 0 for none.
+    pub fn add(&mut self, index: u32, key: K, value: Option<V>) -> Result<u32, PoolFault>
+        requires exact { IsAntisymmetric K.cmp }
+        requires next { IsNext K.cmp index key self.old.versions }
+        ensures ok { OnOk result (self.new ≡ record self.old { versions = installed K.cmp index key value self.old.versions; room = [] }) }
+        ensures before { IfOk result (λ v. v ≡ option_map_or (λ v. v.0) (version_at K.cmp index key self.old.versions) 0) }
+        ensures fits { OnOk result (kept_count self.old.versions + 1 ≤ self.old.cap) }
+        ensures full { result ≡ Err PoolFault.Full → self.old.cap < kept_count self.old.versions + 1 }
+        ensures err { OnErr result (self.new ≡ self.old) }
+    {
+        match self.nodes.reserve(1) {
+            Ok(()) => {}
+            Err(fault) => return Err(fault),
+        }
+        // So many calls never come.
+        if self.last == u64::MAX {
+            return Err(PoolFault::Memory);
+        }
+        let slot = self.nodes.next();
+        let Ok(older) = push_newest(&mut self.heads, key, slot) else {
+            return Err(PoolFault::Memory);
+        };
+        let before = put_version(&mut self.nodes, index, value, older);
+        let next = self.last + 1;
+        self.last = next;
+        self.round = next;
+        Ok(before)
+    }
+
     /// The value as of the index, with its version.
     pub fn read(&self, key: &K, index: u32) -> Option<(&V, u32)>
         ensures { option_map (λ r. (r.0.now, r.1)) result ≡ present (version_at K.cmp index key.now self.now.versions) }
@@ -127,10 +157,7 @@ impl<K: Ord + Drop, V: Drop> Chains<K, V> {
     pub fn version(&self, key: &K, index: u32) -> u32
         ensures { result ≡ option_map_or (λ v. v.0) (version_at K.cmp index key.now self.now.versions) 0 }
     {
-        match last_upto(&self.nodes, newest(&self.heads, key), index) {
-            Some(node) => node.index,
-            None => 0,
-        }
+        version_upto(&self.nodes, newest(&self.heads, key), index)
     }
 
     /// The keys from `lo` and below `hi` that have a value as of the index, in order, with their

@@ -1,6 +1,6 @@
 //! The ordered map from a key to its newest version, and the keys that have room.
 
-ghost use Rattle.std.specs.Prelude.{◌≡◌, ℕ, List, IsSome, OnOk, OnErr};
+ghost use Rattle.std.specs.Prelude.{◌≡◌, ℕ, List, IsSome, IfOk, OnOk, OnErr};
 ghost use Rattle.std.specs.FinMap.{find};
 ghost use Rattle.std.specs.FinMap.Entries.{put};
 ghost use Rattle.r3_chain.specs.Heads.{newest_in, roomed, all_roomed, written};
@@ -47,6 +47,36 @@ pub fn replace_newest<K: Ord>(heads: &mut BTreeMap<K, Head>, key: &K, slot: Slot
         }
         None => unreachable!(),
     }
+}
+
+fn newest_of(head: Option<Head>) -> Option<Slot>
+    ensures { result ≡ newest_in head }
+{
+    match head {
+        Some(head) => head.newest,
+        None => None,
+    }
+}
+
+/// The same, of a key that may be new.
+pub fn push_newest<K: Ord + Drop>(
+    heads: &mut BTreeMap<K, Head>,
+    key: K,
+    slot: Slot,
+) -> Result<Option<Slot>, AllocError>
+    ensures older { IfOk result (λ s. s ≡ newest_in (find K.cmp key heads.old.entries)) }
+    ensures heads { OnOk result (heads.new.entries ≡ put K.cmp key (written slot) heads.old.entries) }
+    ensures err { OnErr result (heads.new.entries ≡ heads.old.entries) }
+{
+    let head = Head {
+        newest: Some(slot),
+        round: 0,
+        before: 0,
+    };
+    let Ok(old) = heads.insert(key, head) else {
+        return Err(AllocError);
+    };
+    Ok(newest_of(old))
 }
 
 /// Gives a key room in the round `next`, and keeps what it has in `round`.

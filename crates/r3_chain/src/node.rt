@@ -1,8 +1,9 @@
 //! The versions in the slab, and the walk along one key's chain.
 
-ghost use Rattle.std.specs.Prelude.{◌≡◌, ℕ, Some};
-ghost use Rattle.std.specs.Option.{option_map};
-ghost use Rattle.r3_pool.specs.Slots.{value_at};
+ghost use Rattle.std.specs.Prelude.{◌≡◌, ◌<◌, ◌-◌, ℕ, Some};
+ghost use Rattle.std.specs.Option.{option_map, option_map_or};
+ghost use Rattle.std.specs.List.{AllByRecursion};
+ghost use Rattle.r3_pool.specs.Slots.{value_at, next_slot, Fills};
 ghost use Rattle.r3_chain.specs.Versions.{last_upto as upto, first_past as past, AreFalling, present};
 ghost use Rattle.r3_chain.specs.Links.{IsChain, chain_in};
 
@@ -34,6 +35,54 @@ pub fn last_upto<V: Drop>(
         next = node.older;
     }
     None
+}
+
+/// The index of the last version up to the index, a deletion counting; 0 for none.
+pub fn version_upto<V: Drop>(nodes: &Pool<Node<V>>, newest: Option<Slot>, index: u32) -> u32
+    requires { IsChain nodes.now newest }
+    ensures { result ≡ option_map_or (λ v. v.0) (upto index (chain_in nodes.now newest)) 0 }
+{
+    match last_upto(nodes, newest, index) {
+        Some(node) => node.index,
+        None => 0,
+    }
+}
+
+/// Puts a version before older ones, and tells the index of the one before it, 0 for none.
+pub fn put_version<V: Drop>(
+    nodes: &mut Pool<Node<V>>,
+    index: u32,
+    value: Option<V>,
+    older: Option<Slot>,
+) -> u32
+    requires chain { IsChain nodes.old older }
+    requires next { AllByRecursion (λ v. v.0 < index) (chain_in nodes.old older) }
+    requires room { 0 < nodes.old.spare }
+    ensures before { result ≡ option_map_or (λ v. v.0) (upto index (chain_in nodes.old older)) 0 }
+    ensures fills { Fills nodes.old nodes.new (next_slot nodes.old)
+        (record { index = index; value = value; older = older }) }
+    ensures cap { nodes.new.cap ≡ nodes.old.cap }
+    ensures spare { nodes.new.spare ≡ nodes.old.spare - 1 }
+{
+    match older {
+        None => {
+            nodes.put(Node {
+                index,
+                value,
+                older: None,
+            });
+            0
+        }
+        Some(slot) => {
+            let before = nodes.get(slot).index;
+            nodes.put(Node {
+                index,
+                value,
+                older: Some(slot),
+            });
+            before
+        }
+    }
 }
 
 /// The index of the last version up to the index, where it is no deletion.

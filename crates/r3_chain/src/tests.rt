@@ -64,6 +64,19 @@ impl Both {
         Ok(())
     }
 
+    // Without room made before. It tells the version before.
+    fn add(&mut self, index: u32, key: u8, value: Option<u32>) -> Result<u32, PoolFault> {
+        if index < self.next || index == u32::MAX {
+            return Ok(0);
+        }
+        let before = self.chains.add(index, key, value)?;
+        self.next = index + 1;
+        match self.plain.push(Install { key, index, value }) {
+            Ok(()) => Ok(before),
+            Err(_) => Err(PoolFault::Memory),
+        }
+    }
+
     fn trim(&mut self, oldest: u32) {
         self.chains.trim(oldest);
     }
@@ -132,9 +145,9 @@ fn compare(rt: &impl Abort, alloc: Global, both: &Both, from: u32) -> Result<(),
     Ok(())
 }
 
-#[test]
-fn the_plain_list_gives_the_same_answers(rt: HostRuntime) -> Result<(), Fail> {
-    let mut both = Both::new(rt.alloc(), 16);
+// The same writes on both, each by `add` or by `reserve` and `install`, and then trims.
+fn play(rt: &impl Abort, alloc: Global, adds: bool) -> Result<(), Fail> {
+    let mut both = Both::new(alloc, 16);
     // index, key, value or none for a deletion
     let writes = [
         (1, 3, Some(30)),
@@ -147,12 +160,50 @@ fn the_plain_list_gives_the_same_answers(rt: HostRuntime) -> Result<(), Fail> {
         (8, 1, None),
     ];
     for (index, key, value) in writes {
-        both.write(rt.alloc(), index, key, value)?;
-        compare(&rt, rt.alloc(), &both, 0)?;
+        if adds {
+            let (before, _) = last_of(&both.plain, key, index);
+            assert_eq!(rt; both.add(index, key, value)?, before);
+        } else {
+            both.write(alloc, index, key, value)?;
+        }
+        compare(rt, alloc, &both, 0)?;
     }
     assert_eq!(rt; both.plain.len(), 8);
-    both.trim(5);
-    compare(&rt, rt.alloc(), &both, 5)?;
+    for oldest in 0..10 {
+        both.trim(oldest);
+        compare(rt, alloc, &both, oldest)?;
+    }
+    Ok(())
+}
+
+#[test]
+fn the_plain_list_gives_the_same_answers(rt: HostRuntime) -> Result<(), Fail> {
+    play(&rt, rt.alloc(), false)
+}
+
+#[test]
+fn added_without_room_made_before_the_answers_are_the_same(rt: HostRuntime) -> Result<(), Fail> {
+    play(&rt, rt.alloc(), true)
+}
+
+// Key 7 has three of the four versions that there may be.
+#[test]
+fn a_version_added_tells_the_one_before(rt: HostRuntime) -> Result<(), Fail> {
+    let mut both = Both::new(rt.alloc(), 4);
+    // index, key, value or none for a deletion, the version before or 0
+    let writes = [
+        (3, 7, Some(30), 0),
+        (5, 8, Some(50), 0),
+        (6, 7, None, 3),
+        (9, 7, Some(90), 6),
+    ];
+    for (index, key, value, before) in writes {
+        assert_eq!(rt; both.add(index, key, value)?, before, "version {index}");
+    }
+    assert!(rt; matches!(both.add(10, 8, None), Err(PoolFault::Full)));
+    assert_eq!(rt; both.chains.version(&8, 10), 5);
+    both.trim(6);
+    assert_eq!(rt; both.add(10, 8, None)?, 5);
     Ok(())
 }
 

@@ -3,23 +3,27 @@
 ghost use Rattle.std.specs.Prelude.{◌≡◌, IsSome};
 ghost use Rattle.r3_pool.specs.Slots.{value_at, live_count};
 ghost use Rattle.r3_chain.specs.Links.{IsChain, trace};
-ghost use Rattle.r3_chain.specs.Cuts.{IsLine, Frees, EndsAt, Trims, IsForest, TrimsAll, first_slot};
+ghost use Rattle.r3_chain.specs.Cuts.{IsLine, Frees, EndsAt, Trims, IsForest, TrimsAll, cut_slot};
 
 use crate::head::Head;
 use crate::node::Node;
 use r3_pool::{Pool, Slot};
 use std::collections::BTreeMap;
 
-// The slot of the last version up to the index.
-fn slot_upto<V: Drop>(nodes: &Pool<Node<V>>, newest: Option<Slot>, oldest: u32) -> Option<Slot>
+// The slot of the last version up to the index, where it has older ones behind it.
+fn slot_to_cut<V: Drop>(nodes: &Pool<Node<V>>, newest: Option<Slot>, oldest: u32) -> Option<Slot>
     requires { IsChain nodes.now newest }
-    ensures { result ≡ first_slot oldest (trace (live_count nodes.now) (value_at nodes.now) newest) }
+    ensures { result ≡ cut_slot oldest (trace (live_count nodes.now) (value_at nodes.now) newest) }
 {
     let mut next = newest;
     'walk: while let Some(slot) = next {
         let node = nodes.get(slot);
         if node.index <= oldest {
-            return Some(slot);
+            return if node.older.is_some() {
+                Some(slot)
+            } else {
+                None
+            };
         }
         next = node.older;
     }
@@ -63,12 +67,12 @@ fn end_at<V: Drop>(nodes: &mut Pool<Node<V>>, slot: Slot) -> Option<Slot>
     older
 }
 
-/// Cuts a chain behind its last version up to the index.
+/// Cuts a chain behind its last version up to the index. Where nothing is behind it, nothing changes.
 pub fn trim_chain<V: Drop>(nodes: &mut Pool<Node<V>>, newest: Option<Slot>, oldest: u32)
     requires { IsLine (live_count nodes.old) (value_at nodes.old) newest }
     ensures { Trims (live_count nodes.old) oldest newest nodes.old nodes.new }
 {
-    if let Some(slot) = slot_upto(nodes, newest, oldest) {
+    if let Some(slot) = slot_to_cut(nodes, newest, oldest) {
         let older = end_at(nodes, slot);
         free_chain(nodes, older);
     }

@@ -4,5 +4,6 @@ pub mod LookLemmas
 pub mod Loops
 pub mod Ready
 pub mod RuleLaws
+pub mod AddLaws
 pub mod LoadLaws
 pub mod FirstWriter

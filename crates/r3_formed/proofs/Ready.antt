@@ -51,7 +51,7 @@ all_in : (acc : List Key) (ws : List (Key × Option Cell)) → AllByRecursion (�
 all_in acc [] = tt
 all_in acc (w ∷ ws) = (stays_in w.0 (insert_key key_cmp acc w.0) (keys_of ws) (has_key w.0 acc), all_in (insert_key key_cmp acc w.0) ws)
 
-all_next : (n : ℕ) (es : Versions Key Cell) → ((key : Key) → AllByRecursion (λ v. v.0 ≤ n) (versions_of key_cmp key es)) → (ws : List (Key × Option Cell)) → AllByRecursion (λ w. IsNext key_cmp (n + 1) w.0 es) ws
+pub all_next : (n : ℕ) (es : Versions Key Cell) → ((key : Key) → AllByRecursion (λ v. v.0 ≤ n) (versions_of key_cmp key es)) → (ws : List (Key × Option Cell)) → AllByRecursion (λ w. IsNext key_cmp (n + 1) w.0 es) ws
 all_next n es h [] = tt
 all_next n es h (w ∷ ws) = (below (versions_of key_cmp w.0 es) (h w.0), all_next n es h ws)
   where

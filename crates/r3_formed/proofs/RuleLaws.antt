@@ -89,7 +89,7 @@ write_back h e [] kinds unwritten steps flows = tt
 write_back h e (w ∷ ws) kinds unwritten steps flows =
     ((kinds.0, unwritten.0, step_unwritten h (h ++ e ∷ []) w steps.0, flows.0), write_back h e ws kinds.1 unwritten.1 steps.1 flows.1)
 
-fits_by : (es : Versions Key Cell) (h : List Entry) (e : Entry) → StandFor es h 0 → Follows h e → FitsBehind es (length h) e
+pub fits_by : (es : Versions Key Cell) (h : List Entry) (e : Entry) → StandFor es h 0 → Follows h e → FitsBehind es (length h) e
 fits_by es h e stand follows = (
   follows.isolated.below,
   subst (λ (m : Map). AllByRecursion (λ r. r ≡ look_in m r) e.reads) (sym (stand.maps e.snap (omega arith))) (all_map (IsReadAt h e.snap) _ (read_back h e.snap) e.reads follows.isolated.reads),
@@ -111,6 +111,26 @@ not_fitting es h e n b same stand is fails =
 pub stands_on : (es new : Versions Key Cell) (h : List Entry) (e : Entry) (n : ℕ) → n ≡ length h → StandFor es h 0 → new ≡ all_installed (n + 1) e.writes es → StandFor new (h ++ e ∷ []) 0
 stands_on es new h e n same stand is =
     subst (λ vs. StandFor vs (h ++ e ∷ []) 0) (sym (is ∙ ap (λ (k : ℕ). all_installed (k + 1) e.writes es) same)) (grown es h e 0 stand)
+
+-- the map after the entry, as its versions tell it
+map_after : (es : Versions Key Cell) (h : List Entry) (e : Entry) (n : ℕ) → n ≡ length h → StandFor es h 0
+    → as_of (n + 1) (all_installed (n + 1) e.writes es) ≡ map_at (h ++ e ∷ []) (length (h ++ e ∷ []))
+map_after es h e n same stand =
+    let after : StandFor (all_installed (n + 1) e.writes es) (h ++ e ∷ []) 0 = stands_on es (all_installed (n + 1) e.writes es) h e n same stand refl in
+    let number : n + 1 ≡ length (h ++ e ∷ []) = omega (arith, same, length-append h (e ∷ [])) in
+    after.maps (n + 1) (omega arith) ∙ ap (map_at (h ++ e ∷ [])) number
+
+pub follows_with : (es : Versions Key Cell) (h : List Entry) (e : Entry) (n : ℕ) → n ≡ length h → StandFor es h 0 → IsProgramFirst h e → FitsBehind es n e
+    → AllByRecursion (λ w. HasFlow (as_of (n + 1) (all_installed (n + 1) e.writes es)) w.0) e.writes → Follows h e
+follows_with es h e n same stand program fits flows =
+    follows_by es h e stand program (subst (λ (k : ℕ). FitsBehind es k e) same fits)
+    (subst (λ (m : Map). AllByRecursion (λ w. HasFlow m w.0) e.writes) (map_after es h e n same stand) flows)
+
+pub flows_by : (es : Versions Key Cell) (h : List Entry) (e : Entry) (n : ℕ) → n ≡ length h → StandFor es h 0 → Follows h e
+    → AllByRecursion (λ w. HasFlow (as_of (n + 1) (all_installed (n + 1) e.writes es)) w.0) e.writes
+flows_by es h e n same stand follows =
+    subst (λ (m : Map). AllByRecursion (λ w. HasFlow m w.0) e.writes) (sym (map_after es h e n same stand))
+    (all_map (IsNewStep h (h ++ e ∷ [])) (FlowIn (h ++ e ∷ [])) (step_flow h (h ++ e ∷ [])) e.writes follows.steps)
 
 -- an entry that keeps all rules but the last follows where the workflows of its steps are there
 pub admitted : (es new : Versions Key Cell) (h : List Entry) (e : Entry) (n : ℕ) (b : Bool) → n ≡ length h → StandFor es h 0 → new ≡ all_installed (n + 1) e.writes es

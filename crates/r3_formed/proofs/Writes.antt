@@ -18,21 +18,21 @@ use Rattle.r3_formed.specs.Past.{AreReady}
 abbrev pub Write : Type 0
 Write = Key × Option Cell
 
-first : (a b : Bool) → T (a && b) → T a
+pub first : (a b : Bool) → T (a && b) → T a
 first true b p = tt
 first false b p = p
 
-second : (a b : Bool) → T (a && b) → T b
+pub second : (a b : Bool) → T (a && b) → T b
 second true b p = p
 second false b p = absurd p
 
-less_of : (r : Ordering) → T (is_lt r) → r ≡ Less
+pub less_of : (r : Ordering) → T (is_lt r) → r ≡ Less
 less_of Less p = refl
 less_of Equal p = absurd p
 less_of Greater p = absurd p
 
 -- a key above another isn't it
-apart : (k q : Key) → key_cmp k q ≡ Less → key_cmp q k ≡ Greater
+pub apart : (k q : Key) → key_cmp k q ≡ Less → key_cmp q k ≡ Greater
 apart k q p = key_cmp-total.antisymm q k ∙ ap ordering_reverse p
 
 kept : (c d e : Bool) → (d ≡ true → e ≡ true) → (c || d) ≡ true → (c || e) ≡ true
@@ -49,7 +49,7 @@ keeps_room k q p (y ∷ ys) h =
       | Greater ↦ λ e. kept (eq_by_cmp key_cmp q y) _ _ (keeps_room k q p ys) h
     ] refl
 
-keeps_versions : (k q : Key) (j : ℕ) (x : Option Cell) (es : Versions Key Cell) → key_cmp k q ≡ Less → versions_of key_cmp q (installed key_cmp j k x es) ≡ versions_of key_cmp q es
+pub keeps_versions : (k q : Key) (j : ℕ) (x : Option Cell) (es : Versions Key Cell) → key_cmp k q ≡ Less → versions_of key_cmp q (installed key_cmp j k x es) ≡ versions_of key_cmp q es
 keeps_versions k q j x es p =
     versions_of-installed key_cmp key_cmp-total q k j x es
     ∙ ap (λ r. cond (is_eq r) ((j, x) ∷ versions_of key_cmp q es) (versions_of key_cmp q es)) (apart k q p)

@@ -5,6 +5,7 @@
 //! so, from the oldest index on that is still read. What is read and written where is left to the store.
 #![tactic(auto)]
 
+mod adding;
 mod fault;
 mod install;
 mod laws;

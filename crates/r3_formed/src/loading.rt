@@ -1,6 +1,6 @@
 //! Reading a history: entry after entry, each against those before it.
 
-ghost use Rattle.std.specs.Prelude.{◌≡◌, ◌↔◌, ◌+◌, ◌<◌, ◌≤◌, ◌^◌, ◌++◌, [], ◌∷◌, cond, None, Err, IfOk, OnOk, IsTrue, List, ℕ, length, map, string_bytes, vec_len, vec_capacity};
+ghost use Rattle.std.specs.Prelude.{◌≡◌, ◌↔◌, ◌+◌, ◌<◌, ◌≤◌, ◌^◌, ◌++◌, [], ◌∷◌, true, false, None, Err, IfOk, OnOk, IsTrue, List, ℕ, length, map, string_bytes, vec_len, vec_capacity};
 ghost use Rattle.std.specs.Option.{IfSome};
 ghost use Rattle.r3_entry.specs.declared.entry.Entry.{Entry};
 ghost use Rattle.r3_entry.specs.Bytes.{entry as spelled, size};
@@ -11,6 +11,7 @@ ghost use Rattle.r3_formed.specs.Past.{StandFor};
 ghost use Rattle.r3_formed.specs.Answers.{text_at, text_of};
 ghost use Rattle.r3_formed.specs.Load.{Loads, AreUnformed, bytes_of, load_fault, payloads as payloads_of};
 
+use crate::adding::move_payload;
 use crate::fault::LoadFault;
 use crate::install::put_versions;
 use crate::rules::{fits_behind, have_flows, is_program_first};
@@ -100,19 +101,6 @@ fn add_entry(
 fn let_go(_entry: Entry) {}
 
 // The text of a Program entry.
-fn text_in(entry: Entry) -> Option<String>
-    ensures none { result ≡ None → (j : ℕ) → text_at j entry.act ≡ [] }
-    ensures some { IfSome result (λ t. (j : ℕ) → text_at j entry.act ≡ (j, string_bytes t) ∷ []) }
-{
-    let Entry {
-        act,
-        snap: _,
-        reads: _,
-        writes: _,
-    } = entry;
-    text_of_act(act)
-}
-
 fn text_of_act(act: Act) -> Option<String>
     ensures none { result ≡ None → (j : ℕ) → text_at j act ≡ [] }
     ensures some { IfSome result (λ t. (j : ℕ) → text_at j act ≡ (j, string_bytes t) ∷ []) }
@@ -137,23 +125,105 @@ pub fn put_text(texts: &mut Vec<(u32, String)>, number: u32, act: Act)
     }
 }
 
-// Keeps the entry, or its program text alone.
-fn keep_entry(loaded: &mut Loaded, keep: bool, number: u32, entry: Entry) -> Result<(), Memory>
-    ensures entries { OnOk result (loaded.new.entries.items
-        ≡ cond keep (loaded.old.entries.items ++ entry ∷ []) loaded.old.entries.items) }
-    ensures texts { OnOk result (map text_of loaded.new.texts.items
-        ≡ cond keep (map text_of loaded.old.texts.items)
-        (map text_of loaded.old.texts.items ++ text_at number entry.act)) }
-    ensures chains { loaded.new.chains ≡ loaded.old.chains }
+fn keep_entry(entries: &mut Vec<Entry>, entry: Entry) -> Result<(), Memory>
+    ensures { OnOk result (entries.new.items ≡ entries.old.items ++ entry ∷ []) }
 {
-    if keep {
-        loaded.entries.push(entry)?;
-        return Ok(());
+    entries.push(entry)?;
+    Ok(())
+}
+
+// One payload more, whose entry is kept.
+fn load_kept(
+    alloc: Global,
+    loaded: &mut Loaded,
+    count: u32,
+    payload: &[u8],
+) -> Result<(), EntryFault>
+    requires bytes { length payload.now ≤ 2 ^ 23 }
+    requires few { count < 1000000 }
+    requires stands { (h : List Entry) × (count ≡ length h) × StandFor loaded.old.chains.versions h 0 }
+    ensures ok { (h : List Entry) → count ≡ length h → Loads loaded.old true h →
+        size h + (5 + length payload.now) ≤ 2 ^ 30 →
+        OnOk result ((e : Entry) × (payload.now ≡ spelled e)
+        × Loads loaded.new true (h ++ e ∷ [])) }
+    ensures unformed { (h : List Entry) → count ≡ length h → StandFor loaded.old.chains.versions h 0 →
+        result ≡ Err EntryFault.NotEntry → (e : Entry) → payload.now ≡ spelled e →
+        IsFormed (h ++ e ∷ []) → ⊥ }
+{
+    let entry = match add_entry(alloc, &mut loaded.chains, count, payload) {
+        Ok(entry) => entry,
+        Err(fault) => return Err(fault),
+    };
+    formed_goes_on();
+    match keep_entry(&mut loaded.entries, entry) {
+        Ok(()) => Ok(()),
+        Err(_) => Err(EntryFault::Memory),
     }
-    if let Some(text) = text_in(entry) {
-        loaded.texts.push((number, text))?;
+}
+
+// Keeps the number and the text of a Program entry, and nothing of another one.
+fn keep_text(texts: &mut Vec<(u32, String)>, number: u32, act: Act) -> Result<(), Memory>
+    ensures { OnOk result (map text_of texts.new.items
+        ≡ map text_of texts.old.items ++ text_at number act) }
+{
+    if let Some(text) = text_of_act(act) {
+        texts.push((number, text))?;
     }
     Ok(())
+}
+
+// One payload more, of which at most a program text is kept.
+fn load_moved(
+    alloc: Global,
+    loaded: &mut Loaded,
+    count: u32,
+    payload: &[u8],
+) -> Result<(), EntryFault>
+    requires bytes { length payload.now ≤ 2 ^ 23 }
+    requires few { count < 1000000 }
+    requires stands { (h : List Entry) × (count ≡ length h) × StandFor loaded.old.chains.versions h 0 }
+    ensures ok { (h : List Entry) → count ≡ length h → Loads loaded.old false h →
+        size h + (5 + length payload.now) ≤ 2 ^ 30 →
+        OnOk result ((e : Entry) × (payload.now ≡ spelled e)
+        × Loads loaded.new false (h ++ e ∷ [])) }
+    ensures unformed { (h : List Entry) → count ≡ length h → StandFor loaded.old.chains.versions h 0 →
+        result ≡ Err EntryFault.NotEntry → (e : Entry) → payload.now ≡ spelled e →
+        IsFormed (h ++ e ∷ []) → ⊥ }
+{
+    let act = match move_payload(alloc, &mut loaded.chains, count, payload) {
+        Ok(act) => act,
+        Err(fault) => return Err(fault),
+    };
+    formed_goes_on();
+    match keep_text(&mut loaded.texts, count + 1, act) {
+        Ok(()) => Ok(()),
+        Err(_) => Err(EntryFault::Memory),
+    }
+}
+
+// The one or the other.
+fn load_either(
+    alloc: Global,
+    loaded: &mut Loaded,
+    keep: bool,
+    count: u32,
+    payload: &[u8],
+) -> Result<(), EntryFault>
+    requires bytes { length payload.now ≤ 2 ^ 23 }
+    requires few { count < 1000000 }
+    requires stands { (h : List Entry) × (count ≡ length h) × StandFor loaded.old.chains.versions h 0 }
+    ensures ok { (h : List Entry) → count ≡ length h → Loads loaded.old keep h →
+        size h + (5 + length payload.now) ≤ 2 ^ 30 →
+        OnOk result ((e : Entry) × (payload.now ≡ spelled e)
+        × Loads loaded.new keep (h ++ e ∷ [])) }
+    ensures unformed { (h : List Entry) → count ≡ length h → StandFor loaded.old.chains.versions h 0 →
+        result ≡ Err EntryFault.NotEntry → (e : Entry) → payload.now ≡ spelled e →
+        IsFormed (h ++ e ∷ []) → ⊥ }
+{
+    if keep {
+        return load_kept(alloc, loaded, count, payload);
+    }
+    load_moved(alloc, loaded, count, payload)
 }
 
 fn fault_at(fault: EntryFault, entry: u32) -> LoadFault
@@ -184,14 +254,9 @@ fn load_one(
         result ≡ Err (LoadFault.NotFormed k) →
         (k ≡ length h + 1) × ((e : Entry) → payload.now ≡ spelled e → IsFormed (h ++ e ∷ []) → ⊥) }
 {
-    let entry = match add_entry(alloc, &mut loaded.chains, count, payload) {
-        Ok(entry) => entry,
-        Err(fault) => return Err(fault_at(fault, count + 1)),
-    };
-    formed_goes_on();
-    match keep_entry(loaded, keep, count + 1, entry) {
+    match load_either(alloc, loaded, keep, count, payload) {
         Ok(()) => Ok(()),
-        Err(_) => Err(LoadFault::Memory),
+        Err(fault) => return Err(fault_at(fault, count + 1)),
     }
 }
 

@@ -210,7 +210,8 @@ fn look_again(
     }
 }
 
-fn is_read_again(
+/// Whether the look gives the same as of the index.
+pub fn is_read_again(
     alloc: Global,
     chains: &Chains<Key, Cell>,
     index: u32,

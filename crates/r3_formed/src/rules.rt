@@ -42,7 +42,8 @@ pub fn is_program_first(count: u32, entry: &Entry) -> bool
     !is_program(&entry.act)
 }
 
-fn kind_of(key: &Key) -> u8
+/// Which kind of key it is: 0 for a row, 1 for a workflow, 2 for a step.
+pub fn kind_of(key: &Key) -> u8
     ensures { result ≡ kind key.now }
 {
     match key {
@@ -62,7 +63,8 @@ fn cell_kind_of(cell: &Cell) -> u8
     }
 }
 
-fn is_of_kind(key: &Key, cell: &Option<Cell>) -> bool
+/// Whether the cell is of its key's kind, and no deletion but of a row.
+pub fn is_of_kind(key: &Key, cell: &Option<Cell>) -> bool
     ensures { IsTrue result ↔ IsOfKind (key.now, cell.now) }
 {
     match cell {
@@ -88,7 +90,8 @@ fn has_outcome(status: Status, outcome: &Option<Outcome>) -> bool
     }
 }
 
-fn is_flow_row(number: u32, key: &Key, cell: &Option<Cell>) -> bool
+/// Whether a workflow's row is one that entry `number` may write.
+pub fn is_flow_row(number: u32, key: &Key, cell: &Option<Cell>) -> bool
     ensures { IsTrue result ↔ IsFlowRow number (key.now, cell.now) }
 {
     match cell {

@@ -12,11 +12,11 @@ use Rattle.r3_model.specs.Script.{Line}
 use Rattle.r3_exec.specs.Does.{told_after, told_of}
 use Rattle.r3_serve.specs.Served.{Loud, said_of}
 use Rattle.r3_serve.specs.Scripted.{ended_script_lines}
-use Rattle.r3_top.specs.Statuses.{status_of, last_line, IsBroken, IsFault}
+use Rattle.r3_top.specs.Statuses.{status_of, last_line, HasLine, IsBroken, IsFault, GoesAs}
 use Rattle.r3_top.specs.Answered.{Answered}
-use Rattle.r3_top.specs.Going.{Unbegun, IsCut, IsCutOff, RunGoes, RecoverGoes, GenGoes, Before}
+use Rattle.r3_top.specs.Going.{Unbegun, Goes, OfScript, OfDrain, OfGenerated, RunGoes, RecoverGoes, GenGoes}
 use Rattle.r3_top.specs.Ends.{Comes, RunComes, RunWork, RecoverComes, RecoverWork, GenComes, GenWork, CheckComes, EndsAs}
-use Rattle.r3_top.specs.Closes.{SaysLast, IsSilent}
+use Rattle.r3_top.specs.Closes.{SaysLast, EndsAtOnce, EndsAtStore}
 use Rattle.r3_top.specs.declared.halt.Halt.{Halt}
 use Rattle.r3_top.specs.declared.halt.Halt.TheVariants as halts
 use Rattle.r3_top.proofs.Saying.{push-both, says-then}
@@ -47,10 +47,21 @@ fault-of halts.LongScript answer b is = absurd b
 whole-line : (halt : Halt) (line rest : Text) → line ++ rest ≡ last_line halt → rest ≡ [] → line ≡ last_line halt
 whole-line halt line rest cut none = sym (append-nil line) ∙ ap (λ (r : Text). line ++ r) (sym none) ∙ cut
 
-module _ {D : Type 0} (image : D → Option Text) (may_leave : D → Text → Type 0) (moment : D → ℕ) (reach : D → Reach) (said : D → Option Text) (asked : D → Option (List desk.Call)) (from mid now : D) (halt : Halt) (answer : ℕ) where
-  abbrev pub Closes : Type 0
-  Closes = (IsSilent halt answer × (now ≡ mid)) ⊎ SaysLast image may_leave moment reach said asked mid now halt answer
+-- a line that isn't empty is there
+pub has-line : (halt : Halt) → (last_line halt ≡ [] → ⊥) → HasLine halt
+has-line halts.Usage some = tt
+has-line halts.Memory some = absurd (some refl)
+has-line halts.Disk some = absurd (some refl)
+has-line halts.Say some = absurd (some refl)
+has-line halts.Files some = absurd (some refl)
+has-line halts.Script some = absurd (some refl)
+has-line (halts.Functions x) some = tt
+has-line (halts.Store x) some = tt
+has-line halts.Program some = tt
+has-line halts.LongFile some = tt
+has-line halts.LongScript some = tt
 
+module _ {D : Type 0} (image : D → Option Text) (may_leave : D → Text → Type 0) (moment : D → ℕ) (reach : D → Reach) (said : D → Option Text) (asked : D → Option (List desk.Call)) (from mid now : D) (halt : Halt) (answer : ℕ) where
   answered-line : (P : Language) (text : Text) (h : List Entry) (lines : List Line) → (last : SaysLast image may_leave moment reach said asked mid now halt answer)
       → Answered image may_leave moment reach said asked from mid P text h lines [] → Answered image may_leave moment reach said asked from now P text h lines last.line
   answered-line P text h lines last a = record {
@@ -78,12 +89,12 @@ module _ {D : Type 0} (image : D → Option Text) (may_leave : D → Text → Ty
   Lasts Old New = (last : SaysLast image may_leave moment reach said asked mid now halt answer) → Old halt → New halt last.line
 
   pub ends-as : (Old New : Option Halt → Text → Type 0) → ((now ≡ mid) → Old (Some halt) [] → New (Some halt) []) → Lasts (λ h. Old (Some h) []) (λ h line. New (Some h) line)
-      → Closes → IsBroken (Some halt) ⊎ Old (Some halt) [] → IsFault answer ⊎ EndsAs New answer
+      → EndsAtOnce image may_leave moment reach said asked mid now halt answer → IsBroken (Some halt) ⊎ Old (Some halt) [] → IsFault answer ⊎ EndsAs New answer
   ends-as Old New same lasts closes came =
       ⊎_elim (λ silent. ⊎_elim
       (λ none. ⊎_elim (λ b. inl (fault-of halt answer b none.1))
       (λ old. inr (Some halt, none.1, subst (λ (x : Text). New (Some halt) x) (sym none.0) (same silent.1 old))) came)
-      (λ three. inl (inl three)) silent.0)
+      (λ three. inl (inl three.1)) silent.0)
       (λ last. ⊎_elim
       (λ all. ⊎_elim (λ b. inl (fault-of halt answer b all.0))
       (λ old. inr (Some halt, all.0, subst (λ (x : Text). New (Some halt) x) (whole-line halt last.line last.rest last.cut all.1) (lasts last old))) came)
@@ -113,7 +124,7 @@ module _ {D : Type 0} (image : D → Option Text) (may_leave : D → Text → Ty
   run-line left left' text items h halts.Program last w = absurd w
   run-line left left' text items h halts.LongFile last w = absurd w
 
-  pub run-ends : (left left' : Option Text) (text : Text) (halt : Halt) → Closes image may_leave moment reach said asked from mid now halt answer
+  pub run-ends : (left left' : Option Text) (text : Text) (halt : Halt) → EndsAtOnce image may_leave moment reach said asked mid now halt answer
       → IsBroken (Some halt) ⊎ RunComes image may_leave moment reach said asked from mid left left' text (Some halt) []
       → IsFault answer ⊎ EndsAs (RunComes image may_leave moment reach said asked from now left left' text) answer
   run-ends left left' text halt closes came = ends-as image may_leave moment reach said asked from mid now halt answer
@@ -122,7 +133,7 @@ module _ {D : Type 0} (image : D → Option Text) (may_leave : D → Text → Ty
       (comes-line image may_leave moment reach said asked from mid now halt answer text (RunWork image may_leave moment reach said asked from mid left left' text) (RunWork image may_leave moment reach said asked from now left left' text)
       (λ items h. run-line left left' text items h halt)) closes came
 
-  pub recover-ends : (turns : ℕ) (text : Text) (halt : Halt) → Closes image may_leave moment reach said asked from mid now halt answer
+  pub recover-ends : (turns : ℕ) (text : Text) (halt : Halt) → EndsAtOnce image may_leave moment reach said asked mid now halt answer
       → IsBroken (Some halt) ⊎ RecoverComes image may_leave moment reach said asked from mid turns text (Some halt) []
       → IsFault answer ⊎ EndsAs (RecoverComes image may_leave moment reach said asked from now turns text) answer
   recover-ends turns text halt closes came = ends-as image may_leave moment reach said asked from mid now halt answer
@@ -131,116 +142,102 @@ module _ {D : Type 0} (image : D → Option Text) (may_leave : D → Text → Ty
       (comes-line image may_leave moment reach said asked from mid now halt answer text (RecoverWork image may_leave moment reach said asked from mid turns text) (RecoverWork image may_leave moment reach said asked from now turns text)
       (λ items h last w. absurd w)) closes came
 
-  -- ---- however it goes
-
-  unbegun-line : (h : List Entry) (halt : Halt) → SaysLast image may_leave moment reach said asked mid now halt answer
-      → Unbegun image may_leave moment reach said asked from mid h [] → (line : Text) × IsCut line × Unbegun image may_leave moment reach said asked from now h line
-  unbegun-line h halt last u = (
-    last.line,
-    (halt, last.rest, last.cut),
-    record {
-      says = says-then image said asked from mid now [] last.line u.says last.says;
-      settled = λ c may. u.settled c (last.pending c may);
-      leaves = leaves-more image may_leave moment reach said asked from mid now h (length h) [] last.line u.leaves u.settled last.pending last.time
-          (let S : Option Text → Type 0 = λ x. told_len (said from) ≤ told_len x in subst S (sym u.says.told) (push-up (said from) []))
-          (let S : Option Text → Type 0 = λ x. told_len (said mid) ≤ told_len x in subst S (sym last.says.told) (push-up (said mid) last.line))
-          (let S : Option (List desk.Call) → Type 0 = λ x. told_len (asked from) ≤ told_len x in subst S (sym u.says.asks) (omega arith))
-          (let S : Option (List desk.Call) → Type 0 = λ x. told_len (asked mid) ≤ told_len x in subst S (sym last.says.asks) (omega arith));
-    },
-  )
-
-  cut-off-line : (text : Text) (h : List Entry) (script : Text) (halt : Halt) → SaysLast image may_leave moment reach said asked mid now halt answer
-      → IsCutOff image may_leave moment reach said asked from mid text h script []
-      → (line : Text) × IsCut line × IsCutOff image may_leave moment reach said asked from now text h script line
-  cut-off-line text h script halt last c = (
-    last.line,
-    (halt, last.rest, last.cut),
-    (
-      c.0,
-      c.1,
-      c.2,
-      answered-line image may_leave moment reach said asked from mid now halt answer (language_of c.0) text h (ended_script_lines (take (2 ^ 26) script)) last c.3,
-    ),
-  )
-
-  -- where a last line was said, nothing or a script that is too long has gone before
-  goes-line : (Cut Cut' Goes Goes' : Type 0) (h : List Entry) (halt : Halt)
-      → ((line : Text) × IsCut line × Unbegun image may_leave moment reach said asked from now h line → Goes') → (Cut → Cut') → (Cut' → Goes')
-      → SaysLast image may_leave moment reach said asked mid now halt answer
-      → Before (Unbegun image may_leave moment reach said asked from mid h []) Cut Goes (Some halt) → Goes'
-  goes-line C C' G G' h halts.Usage none cut goes last b = absurd b
-  goes-line C C' G G' h halts.Memory none cut goes last b = absurd (last.spoken refl)
-  goes-line C C' G G' h halts.Disk none cut goes last b = absurd (last.spoken refl)
-  goes-line C C' G G' h halts.Say none cut goes last b = absurd (last.spoken refl)
-  goes-line C C' G G' h halts.Files none cut goes last b = absurd (last.spoken refl)
-  goes-line C C' G G' h halts.Script none cut goes last b = absurd (last.spoken refl)
-  goes-line C C' G G' h (halts.Functions f) none cut goes last b = none (unbegun-line h (halts.Functions f) last b)
-  goes-line C C' G G' h (halts.Store e) none cut goes last b = absurd b
-  goes-line C C' G G' h halts.Program none cut goes last b = absurd b
-  goes-line C C' G G' h halts.LongFile none cut goes last b = none (unbegun-line h halts.LongFile last b)
-  goes-line C C' G G' h halts.LongScript none cut goes last b = goes (cut b)
-
-no-line : (halt : Halt) → [] ++ last_line halt ≡ last_line halt
-no-line halt = refl
-
--- what has gone before is what goes, where no more is said
-goes-before : (Nothing Cut Goes : Type 0) (halt : Halt) → (Nothing → Goes) → (Cut → Goes) → Before Nothing Cut Goes (Some halt) → Goes
-goes-before N C G halts.Usage n c b = absurd b
-goes-before N C G halts.Memory n c b = b
-goes-before N C G halts.Disk n c b = b
-goes-before N C G halts.Say n c b = b
-goes-before N C G halts.Files n c b = b
-goes-before N C G halts.Script n c b = b
-goes-before N C G (halts.Functions f) n c b = n b
-goes-before N C G (halts.Store e) n c b = absurd b
-goes-before N C G halts.Program n c b = absurd b
-goes-before N C G halts.LongFile n c b = n b
-goes-before N C G halts.LongScript n c b = c b
-
-module _ {D : Type 0} (image : D → Option Text) (may_leave : D → Text → Type 0) (moment : D → ℕ) (reach : D → Reach) (said : D → Option Text) (asked : D → Option (List desk.Call)) (from mid now : D) (halt : Halt) (answer : ℕ) where
-  nothing-said : (h : List Entry) → Unbegun image may_leave moment reach said asked from mid h [] → (line : Text) × IsCut line × Unbegun image may_leave moment reach said asked from mid h line
-  nothing-said h u = ([], (halt, last_line halt, no-line halt), u)
-
-  pub run-goes : (text : Text) (h : List Entry) (script : Text) → Closes image may_leave moment reach said asked from mid now halt answer
-      → Before (Unbegun image may_leave moment reach said asked from mid h []) (IsCutOff image may_leave moment reach said asked from mid text h script [])
-      (RunGoes image may_leave moment reach said asked from mid text h script) (Some halt)
-      → RunGoes image may_leave moment reach said asked from now text h script
-  run-goes text h script closes before = ⊎_elim
-      (λ silent. subst (λ (d : D). RunGoes image may_leave moment reach said asked from d text h script) (sym silent.1)
-      (goes-before _ _ _ halt (λ u. inl (inl (nothing-said h u))) (λ c. inr (inl ([], (halt, last_line halt, no-line halt), c))) before))
-      (λ last. goes-line image may_leave moment reach said asked from mid now answer (IsCutOff image may_leave moment reach said asked from mid text h script [])
-      ((line : Text) × IsCut line × IsCutOff image may_leave moment reach said asked from now text h script line) (RunGoes image may_leave moment reach said asked from mid text h script) _ h halt
-      (λ u. inl (inl u)) (cut-off-line image may_leave moment reach said asked from mid now answer text h script halt last) (λ c. inr (inl c)) last before) closes
-
-  pub recover-goes : (text : Text) (h : List Entry) (turns : ℕ) → Closes image may_leave moment reach said asked from mid now halt answer
-      → Before (Unbegun image may_leave moment reach said asked from mid h []) ⊥
-      (RecoverGoes image may_leave moment reach said asked from mid text h turns) (Some halt)
-      → RecoverGoes image may_leave moment reach said asked from now text h turns
-  recover-goes text h turns closes before = ⊎_elim
-      (λ silent. subst (λ (d : D). RecoverGoes image may_leave moment reach said asked from d text h turns) (sym silent.1)
-      (goes-before _ _ _ halt (λ u. inl (inl (nothing-said h u))) (λ c. absurd c) before))
-      (λ last. goes-line image may_leave moment reach said asked from mid now answer ⊥ ⊥
-      (RecoverGoes image may_leave moment reach said asked from mid text h turns) _ h halt
-      (λ u. inl (inl u)) (λ c. c) (λ c. absurd c) last before) closes
-
-  -- ---- the generator's call
-
-  pub gen-ends : (number count : ℕ) (text : Text) → Closes image may_leave moment reach said asked from mid now halt answer
+  pub gen-ends : (number count : ℕ) (text : Text) (halt : Halt) → EndsAtOnce image may_leave moment reach said asked mid now halt answer
       → IsBroken (Some halt) ⊎ GenComes image may_leave moment reach said asked from mid number count text (Some halt) []
       → IsFault answer ⊎ EndsAs (GenComes image may_leave moment reach said asked from now number count text) answer
-  gen-ends number count text closes came = ends-as image may_leave moment reach said asked from mid now halt answer
+  gen-ends number count text halt closes came = ends-as image may_leave moment reach said asked from mid now halt answer
       (GenComes image may_leave moment reach said asked from mid number count text) (GenComes image may_leave moment reach said asked from now number count text)
       (λ same old. subst (λ (d : D). GenComes image may_leave moment reach said asked from d number count text (Some halt) []) (sym same) old)
       (comes-line image may_leave moment reach said asked from mid now halt answer text (GenWork image may_leave moment reach said asked from mid number count text) (GenWork image may_leave moment reach said asked from now number count text)
       (λ items h last w. absurd w)) closes came
 
-  pub gen-goes : (text : Text) (h : List Entry) (number count : ℕ) → Closes image may_leave moment reach said asked from mid now halt answer
-      → Before (Unbegun image may_leave moment reach said asked from mid h []) ⊥
-      (GenGoes image may_leave moment reach said asked from mid text h number count) (Some halt)
-      → GenGoes image may_leave moment reach said asked from now text h number count
-  gen-goes text h number count closes before = ⊎_elim
-      (λ silent. subst (λ (d : D). GenGoes image may_leave moment reach said asked from d text h number count) (sym silent.1)
-      (goes-before _ _ _ halt (λ u. inl (inl (nothing-said h u))) (λ c. absurd c) before))
-      (λ last. goes-line image may_leave moment reach said asked from mid now answer ⊥ ⊥
-      (GenGoes image may_leave moment reach said asked from mid text h number count) _ h halt
-      (λ u. inl (inl u)) (λ c. c) (λ c. absurd c) last before) closes
+  -- ---- however it goes
+
+  unbegun-line : (h : List Entry) (halt : Halt) → (last : SaysLast image may_leave moment reach said asked mid now halt answer)
+      → Unbegun image may_leave moment reach said asked from mid h [] → Unbegun image may_leave moment reach said asked from now h last.line
+  unbegun-line h halt last u = record {
+    says = says-then image said asked from mid now [] last.line u.says last.says;
+    settled = λ c may. u.settled c (last.pending c may);
+    leaves = leaves-more image may_leave moment reach said asked from mid now h (length h) [] last.line u.leaves u.settled last.pending last.time
+        (let S : Option Text → Type 0 = λ x. told_len (said from) ≤ told_len x in subst S (sym u.says.told) (push-up (said from) []))
+        (let S : Option Text → Type 0 = λ x. told_len (said mid) ≤ told_len x in subst S (sym last.says.told) (push-up (said mid) last.line))
+        (let S : Option (List desk.Call) → Type 0 = λ x. told_len (asked from) ≤ told_len x in subst S (sym u.says.asks) (omega arith))
+        (let S : Option (List desk.Call) → Type 0 = λ x. told_len (asked mid) ≤ told_len x in subst S (sym last.says.asks) (omega arith));
+  }
+
+  -- where a last line was said, the function file was refused, or the script is too long
+  goes-line : (text : Text) (h : List Entry) (Old New : Language → Option Halt → Text → Type 0) (halt : Halt)
+      → ((P : Language) → (last : SaysLast image may_leave moment reach said asked mid now halts.LongScript answer) → Old P (Some halts.LongScript) [] → New P (Some halts.LongScript) last.line)
+      → (last : SaysLast image may_leave moment reach said asked mid now halt answer)
+      → Goes image may_leave moment reach said asked from mid text h Old (Some halt) []
+      → Goes image may_leave moment reach said asked from now text h New (Some halt) last.line
+  goes-line text h Old New halts.Usage work last g = absurd g
+  goes-line text h Old New halts.Memory work last g = absurd (last.spoken refl)
+  goes-line text h Old New halts.Disk work last g = absurd (last.spoken refl)
+  goes-line text h Old New halts.Say work last g = absurd (last.spoken refl)
+  goes-line text h Old New halts.Files work last g = absurd (last.spoken refl)
+  goes-line text h Old New halts.Script work last g = absurd (last.spoken refl)
+  goes-line text h Old New (halts.Functions f) work last g = (g.0, unbegun-line h (halts.Functions f) last g.1)
+  goes-line text h Old New (halts.Store e) work last g = absurd g
+  goes-line text h Old New halts.Program work last g = absurd g
+  goes-line text h Old New halts.LongFile work last g = (g.0, unbegun-line h halts.LongFile last g.1)
+  goes-line text h Old New halts.LongScript work last g = (g.0, g.1, work (language_of g.0) last g.2)
+
+  -- of a call to which only its last line is added
+  goes-as : (Old New : Option Halt → Text → Type 0) (halt : Halt) → (now ≡ mid → Old (Some halt) [] → New (Some halt) [])
+      → ((last : SaysLast image may_leave moment reach said asked mid now halt answer) → Old (Some halt) [] → New (Some halt) last.line)
+      → EndsAtOnce image may_leave moment reach said asked mid now halt answer → Old (Some halt) [] → GoesAs New answer
+  goes-as Old New halt same more closes old = ⊎_elim
+      (λ silent. (Some halt, [], ⊎_elim (λ own. inl (own.1, sym own.0)) (λ three. inr (three.0, inr (three.1, refl))) silent.0, same silent.1 old))
+      (λ last. (
+        Some halt,
+        last.line,
+        ⊎_elim (λ own. inl (own.0, whole-line halt last.line last.rest last.cut own.1))
+            (λ five. inr (has-line halt last.spoken, inl (five, last.rest, last.cut))) last.answers,
+        more last old,
+      )) closes
+
+  pub run-goes : (text : Text) (h : List Entry) (script : Text) (halt : Halt) → EndsAtOnce image may_leave moment reach said asked mid now halt answer
+      → RunGoes image may_leave moment reach said asked from mid text h script (Some halt) []
+      → GoesAs (RunGoes image may_leave moment reach said asked from now text h script) answer
+  run-goes text h script halt = goes-as (RunGoes image may_leave moment reach said asked from mid text h script) (RunGoes image may_leave moment reach said asked from now text h script) halt
+      (λ same old. subst (λ (d : D). RunGoes image may_leave moment reach said asked from d text h script (Some halt) []) (sym same) old)
+      (goes-line text h (OfScript image may_leave moment reach said asked from mid text h script) (OfScript image may_leave moment reach said asked from now text h script) halt
+      (λ P last w. (w.0, answered-line image may_leave moment reach said asked from mid now halts.LongScript answer P text h (ended_script_lines (take (2 ^ 26) script)) last w.1)))
+
+  pub recover-goes : (text : Text) (h : List Entry) (turns : ℕ) (halt : Halt) → EndsAtOnce image may_leave moment reach said asked mid now halt answer
+      → RecoverGoes image may_leave moment reach said asked from mid text h turns (Some halt) []
+      → GoesAs (RecoverGoes image may_leave moment reach said asked from now text h turns) answer
+  recover-goes text h turns halt = goes-as (RecoverGoes image may_leave moment reach said asked from mid text h turns) (RecoverGoes image may_leave moment reach said asked from now text h turns) halt
+      (λ same old. subst (λ (d : D). RecoverGoes image may_leave moment reach said asked from d text h turns (Some halt) []) (sym same) old)
+      (goes-line text h (OfDrain image may_leave moment reach said asked from mid text h turns) (OfDrain image may_leave moment reach said asked from now text h turns) halt
+      (λ P last w. absurd w))
+
+  pub gen-goes : (text : Text) (h : List Entry) (number count : ℕ) (halt : Halt) → EndsAtOnce image may_leave moment reach said asked mid now halt answer
+      → GenGoes image may_leave moment reach said asked from mid text h number count (Some halt) []
+      → GoesAs (GenGoes image may_leave moment reach said asked from now text h number count) answer
+  gen-goes text h number count halt = goes-as (GenGoes image may_leave moment reach said asked from mid text h number count) (GenGoes image may_leave moment reach said asked from now text h number count) halt
+      (λ same old. subst (λ (d : D). GenGoes image may_leave moment reach said asked from d text h number count (Some halt) []) (sym same) old)
+      (goes-line text h (OfGenerated image may_leave moment reach said asked from mid text h number count) (OfGenerated image may_leave moment reach said asked from now text h number count) halt
+      (λ P last w. absurd w))
+
+  -- ---- a call that goes no further than a refusal
+
+  store-line : (text : Text) (halt : Halt) → (last : SaysLast image may_leave moment reach said asked mid now halt answer)
+      → EndsAtStore image said asked from mid text (Some halt) [] → EndsAtStore image said asked from now text (Some halt) last.line
+  store-line text halts.Memory last e = absurd (last.spoken refl)
+  store-line text halts.Disk last e = absurd (last.spoken refl)
+  store-line text halts.Usage last e = (e.0, says-then image said asked from mid now [] last.line e.1 last.says)
+  store-line text halts.Say last e = (e.0, says-then image said asked from mid now [] last.line e.1 last.says)
+  store-line text halts.Files last e = (e.0, says-then image said asked from mid now [] last.line e.1 last.says)
+  store-line text halts.Script last e = (e.0, says-then image said asked from mid now [] last.line e.1 last.says)
+  store-line text halts.Program last e = (e.0, says-then image said asked from mid now [] last.line e.1 last.says)
+  store-line text halts.LongFile last e = (e.0, says-then image said asked from mid now [] last.line e.1 last.says)
+  store-line text halts.LongScript last e = (e.0, says-then image said asked from mid now [] last.line e.1 last.says)
+  store-line text (halts.Functions f) last e = (e.0, says-then image said asked from mid now [] last.line e.1 last.says)
+  store-line text (halts.Store n) last e = (e.0, says-then image said asked from mid now [] last.line e.1 last.says)
+
+  pub store-ends : (text : Text) (halt : Halt) → EndsAtOnce image may_leave moment reach said asked mid now halt answer
+      → EndsAtStore image said asked from mid text (Some halt) [] → GoesAs (EndsAtStore image said asked from now text) answer
+  store-ends text halt = goes-as (EndsAtStore image said asked from mid text) (EndsAtStore image said asked from now text) halt
+      (λ same old. subst (λ (d : D). EndsAtStore image said asked from d text (Some halt) []) (sym same) old) (store-line text halt)

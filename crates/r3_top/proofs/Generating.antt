@@ -18,12 +18,13 @@ use Rattle.r3_recover.specs.Opened.{HasProgram, HasCause, IsHalted}
 use Rattle.r3_recover.specs.declared.ends.StartFault.{StartFault}
 use Rattle.r3_recover.specs.declared.ends.StartFault.TheVariants as starts
 use Rattle.r3_serve.specs.Served.{Quiet, Served}
-use Rattle.r3_gen.specs.Ran.{Ran, StoppedAmong, EndsEarly}
+use Rattle.r3_gen.specs.Ran.{Ran, SummaryFailed, StoppedAmong, EndsEarly}
 use Rattle.r3_gen.specs.declared.fault.GenFault.{GenFault}
 use Rattle.r3_gen.specs.declared.fault.GenFault.TheVariants as gens
 use Rattle.r3_top.specs.Functions.{IsAccepted}
 use Rattle.r3_top.specs.Refusals.{IsOthers}
-use Rattle.r3_top.specs.Going.{Unsaid, WithinUnsaid, Generating, GenGoes}
+use Rattle.r3_top.specs.Causes.{IsBegun, IsReady}
+use Rattle.r3_top.specs.Going.{Unsaid, WithinUnsaid, Generating}
 use Rattle.r3_top.proofs.Saying.{push-none}
 use Rattle.r3_top.proofs.Refusing.{Opening-of, Others-of}
 use Rattle.r3_top.proofs.Working.{same-history}
@@ -115,25 +116,46 @@ module _ {D : Type 0} (size : D → Option ℕ) (image : D → Option Text) (may
     ⊎_elim (λ all. inl (unsaid reads crash from now exec text h s.done all)) (λ part. inr part) s.state,
   )
 
+  -- within the lines, or with a part of the summary; and all of it
+  abbrev pub Drew : (from now : D) → Text → List Entry → ℕ → ℕ → Type 0
+  Drew from now text h number count = (is : List Item) × IsAccepted text is × Generating image may_leave moment reach said asked from now (language_of is) text h number count
+
+  abbrev pub DrewAll : (from now : D) → Text → List Entry → ℕ → ℕ → Type 0
+  DrewAll from now text h number count = (is : List Item) × IsAccepted text is × Ran image moment reach said asked from now (language_of is) text h (generated number count) count
+
+  abbrev pub DrewInPart : (from now : D) → Text → List Entry → ℕ → ℕ → Type 0
+  DrewInPart from now text h number count = (is : List Item) × IsAccepted text is × SummaryFailed image moment reach said asked from now (language_of is) text h (generated number count) count
+
+  -- the summary failed to be said
+  pub gen-failed : ((c : Text) (a b : List Entry) → IsHistoryOf a c → IsHistoryOf b c → a ≡ b) → (from now : D) (text c : Text) (h : List Entry) (number count : ℕ) (items : List Item) → IsAccepted text items
+      → image from ≡ Some c → IsHistoryOf h c
+      → (k : List Entry) × ForSome (image from) (IsHistoryOf k) × HasProgram k text × SummaryFailed image moment reach said asked from now (language_of items) text k (generated number count) count
+      → DrewInPart from now text h number count
+  gen-failed one from now text c h number count items accepted is history x = (
+    items,
+    accepted,
+    subst (λ (h' : List Entry). SummaryFailed image moment reach said asked from now (language_of items) text h' (generated number count) count)
+        (same-history one (image from) c x.0 h x.1 is history) x.3,
+  )
+
   -- it has ended early
   pub gen-early : Reads → Settles → (from now : D) (exec : Exec) (text : Text) (h k : List Entry) (number count : ℕ) (items : List Item)
       → IsAccepted text items → exec.program ≡ items → k ≡ h
       → EndsEarly size image may_leave moment reach said asked from now exec text k (generated number count) count
-      → GenGoes image may_leave moment reach said asked from now text h number count
+      → Drew from now text h number count
   gen-early reads crash from now exec text h k number count items accepted program history early =
       let of : Generating image may_leave moment reach said asked from now (language_of exec.program) text k number count =
       ⊎_elim (λ w. inl (within-unsaid reads crash from now exec text k (generated number count) w)) (λ s. inr s) early in
       let there : Generating image may_leave moment reach said asked from now (language_of items) text k number count =
       subst (λ (is : List Item). Generating image may_leave moment reach said asked from now (language_of is) text k number count) program of in
-      inr (items, accepted, subst (λ (h' : List Entry). Generating image may_leave moment reach said asked from now (language_of items) text h' number count) history there)
+      (items, accepted, subst (λ (h' : List Entry). Generating image may_leave moment reach said asked from now (language_of items) text h' number count) history there)
 
   -- it has come to its end
   pub gen-ended : (from now : D) (text : Text) (h k : List Entry) (number count : ℕ) (items : List Item) → IsAccepted text items → k ≡ h
       → Ran image moment reach said asked from now (language_of items) text k (generated number count) count
-      → GenGoes image may_leave moment reach said asked from now text h number count
+      → DrewAll from now text h number count
   gen-ended from now text h k number count items accepted history ran =
-      let there : Generating image may_leave moment reach said asked from now (language_of items) text k number count = inr (ran.0, [], ran.1) in
-      inr (items, accepted, subst (λ (h' : List Entry). Generating image may_leave moment reach said asked from now (language_of items) text h' number count) history there)
+      (items, accepted, subst (λ (h' : List Entry). Ran image moment reach said asked from now (language_of items) text h' (generated number count) count) history ran)
 
   -- a run that wasn't ended by its opening
   pub gen-stopped : {T : Type 0} → Reads → Settles → ((c : Text) (a b : List Entry) → IsHistoryOf a c → IsHistoryOf b c → a ≡ b)
@@ -142,7 +164,17 @@ module _ {D : Type 0} (size : D → Option ℕ) (image : D → Option Text) (may
       → ((start : StartFault) × (◌≡◌ {A = Result T GenFault} (Err fault) (Err (gens.Start start))))
       ⊎ ((k : List Entry) × ForSome (image from) (IsHistoryOf k) × HasProgram k text × (exec : Exec) × (exec.program ≡ items)
       × EndsEarly size image may_leave moment reach said asked from now exec text k (generated number count) count)
-      → GenGoes image may_leave moment reach said asked from now text h number count
+      → Drew from now text h number count
   gen-stopped {T} reads crash one from now text c h number count items accepted is history fault later stopped = ⊎_elim
       (λ s. absurd (not-start fault s.0 later (err-start fault s.0 s.1)))
       (λ x. gen-early reads crash from now x.3 text h x.0 number count items accepted x.4 (same-history one (image from) c x.0 h x.1 is history) x.5) stopped
+
+  -- what was opened is a store of these functions
+  pub gen-begun : {T : Type 0} → (from now : D) (text : Text) (number count : ℕ) (items : List Item) (fault : GenFault) → IsLater fault
+      → ((start : StartFault) × (◌≡◌ {A = Result T GenFault} (Err fault) (Err (gens.Start start))))
+      ⊎ ((k : List Entry) × ForSome (image from) (IsHistoryOf k) × HasProgram k text × (exec : Exec) × (exec.program ≡ items)
+      × EndsEarly size image may_leave moment reach said asked from now exec text k (generated number count) count)
+      → IsBegun text (image from)
+  gen-begun {T} from now text number count items fault later stopped = ⊎_elim
+      (λ s. absurd (not-start fault s.0 later (err-start fault s.0 s.1)))
+      (λ x. λ i there. (x.0, x.1 i there, x.2)) stopped

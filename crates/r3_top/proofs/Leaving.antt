@@ -14,8 +14,7 @@ use Rattle.r3_session.specs.Begun.{StopsOpening}
 use Rattle.r3_serve.specs.Held.{LeavesHeld}
 use Rattle.r3_top.specs.Answered.{LeavesPrefix}
 use Rattle.r3_top.specs.Functions.{IsAccepted}
-use Rattle.r3_top.specs.Going.{Unbegun, NotBegun}
-use Rattle.r3_top.specs.declared.halt.Halt.TheVariants as halts
+use Rattle.r3_top.specs.Going.{Unbegun, OpensEarly}
 use Rattle.r3_top.proofs.Saying.{says-none}
 
 some-same : (a b : Text) → ◌≡◌ {A = Option Text} (Some a) (Some b) → a ≡ b
@@ -53,15 +52,11 @@ module _ {D : Type 0} (image : D → Option Text) (may_leave : D → Text → Ty
     leaves = leaves-first d h i counts_now only_now pending is history;
   }
 
-  pub not-begun : (from now : D) (text : Text) (h : List Entry) → Unbegun image may_leave moment reach said asked from now h []
-      → NotBegun image may_leave moment reach said asked from now text h
-  not-begun from now text h u = inl ([], (halts.Memory, [], refl), u)
-
   -- an opening that ended early
   pub opening : (from now : D) (text : Text) (h : List Entry) (items : List Item) → IsAccepted text items
       → StopsOpening image moment reach said asked (language_of items) from now text h → said now ≡ said from → asked now ≡ asked from
-      → NotBegun image may_leave moment reach said asked from now text h
-  opening from now text h items accepted stops a b = inr (items, accepted, (stops, a, b))
+      → OpensEarly image may_leave moment reach said asked from now text h
+  opening from now text h items accepted stops a b = (items, accepted, (stops, a, b))
 
   -- of an answered call
   pub leaves-held : (from now : D) (h : List Entry) (first : ℕ) (marks : List Mark)

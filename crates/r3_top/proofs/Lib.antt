@@ -5,6 +5,8 @@ pub mod Working
 pub mod Running
 pub mod Refusing
 pub mod Causing
+pub mod Standing
 pub mod Closing
+pub mod Ordering
 pub mod Generating
 pub mod Unread

@@ -13,15 +13,18 @@ use Rattle.r3_model.specs.Functions.{language_of}
 use Rattle.r3_model.specs.Language.{Text}
 use Rattle.r3_model.specs.Script.{Line, Drain}
 use Rattle.r3_exec.specs.declared.exec.Exec.{Exec}
+use Rattle.r3_recover.specs.Opened.{HasProgram}
 use Rattle.r3_serve.specs.Served.{Loud, Served, Stopped}
+use Rattle.r3_serve.specs.Failed.{ReplyFailed, ReplyFailedIn}
 use Rattle.r3_serve.specs.Scripted.{StoppedIn, script_lines, ended_script_lines}
 use Rattle.r3_top.specs.declared.halt.Halt.TheVariants as halts
 use Rattle.r3_top.specs.Functions.{IsAccepted}
-use Rattle.r3_top.specs.Refusals.{IsOpened}
+use Rattle.r3_top.specs.Refusals.{IsFile, IsFunctionFile, IsOpened}
+use Rattle.r3_top.specs.Causes.{IsBegun}
 use Rattle.r3_top.specs.Answered.{Answered}
-use Rattle.r3_top.specs.Going.{Within, IsCutOff}
+use Rattle.r3_top.specs.Going.{Within}
 use Rattle.r3_top.specs.Ends.{RunComes, RecoverComes}
-use Rattle.r3_top.proofs.Working.{answered, within-all, within-first, within-script}
+use Rattle.r3_top.proofs.Working.{answered, within-first, within-script}
 
 -- of the text that is told, and of the history that the image stands for
 pub carry : (G : Text → List Entry → Type 0) (text text' : Text) (h h' : List Entry) → text' ≡ text → h' ≡ h → G text' h' → G text h
@@ -34,8 +37,35 @@ of-err : {T E P : Type 0} (result : Result T E) (fault : E) → result ≡ Err f
 of-err (Ok x) fault is p = absurd (ok-err x fault is)
 of-err (Err e) fault is p = p
 
+-- ---- what was opened
+
+pub opened-file : (text text' : Text) (image : Option Text) (items : List Item) (h : List Entry) → text' ≡ text → IsOpened text' image items h → IsFunctionFile text
+opened-file text text' image items h same o = (items, subst (λ (t : Text). IsFile t items) same o.file)
+
+pub opened-begun : (text text' : Text) (image : Option Text) (items : List Item) (h : List Entry) → text' ≡ text → IsOpened text' image items h → IsBegun text image
+opened-begun text text' image items h same o = λ i there. (h, o.history i there, subst (λ (t : Text). HasProgram h t) same o.program)
+
 opened-now : (text : Text) (image : Option Text) (items now : List Item) (h : List Entry) → now ≡ items → IsOpened text image items h → IsOpened text image now h
 opened-now text image items now h same o = subst (λ (is : List Item). IsOpened text image is h) (sym same) o
+
+module _ {D : Type 0} (image : D → Option Text) (may_leave : D → Text → Type 0) (moment : D → ℕ) (reach : D → Reach) (said : D → Option Text) (asked : D → Option (List desk.Call)) (from now : D) where
+  -- all of these lines; those before some line; all that end within the limit
+  abbrev pub Whole : List Line → Text → List Entry → Type 0
+  Whole lines text h = (is : List Item) × IsAccepted text is × Answered image may_leave moment reach said asked from now (language_of is) text h lines []
+
+  abbrev pub Part : List Line → Text → List Entry → Type 0
+  Part lines text h = (is : List Item) × IsAccepted text is × Within image may_leave moment reach said asked from now (language_of is) text h lines
+
+  -- up to the reply that failed to be said; the same of a drain
+  abbrev pub Failed : Text → Text → List Entry → Type 0
+  Failed script text h = (is : List Item) × IsAccepted text is × ReplyFailedIn image may_leave moment reach said asked from now (language_of is) text h [] script
+
+  abbrev pub DrainFailed : Line → Text → List Entry → Type 0
+  DrainFailed line text h = (is : List Item) × IsAccepted text is × ReplyFailed image may_leave moment reach said asked from now (language_of is) text h [] line
+
+  abbrev pub CutOff : Text → Text → List Entry → Type 0
+  CutOff script text h = (is : List Item) × IsAccepted text is × ((2 ^ 26 < length script)
+      × Answered image may_leave moment reach said asked from now (language_of is) text h (ended_script_lines (take (2 ^ 26) script)) [])
 
 module _ {D : Type 0} (size : D → Option ℕ) (image : D → Option Text) (may_leave : D → Text → Type 0) (moment : D → ℕ) (reach : D → Reach) (said : D → Option Text) (asked : D → Option (List desk.Call))
     (reads : (d : D) (s : Store) (h : List Entry) (k : ℕ) (c : Text) → store.Holds size image may_leave d s h k → image d ≡ Some c → IsHistoryOf (take k h) c)
@@ -69,24 +99,31 @@ module _ {D : Type 0} (size : D → Option ℕ) (image : D → Option Text) (may
 
   -- ---- how it goes
 
-  abbrev pub GoesWithin : List Line → Text → List Entry → Type 0
-  GoesWithin lines text' h' = (is : List Item) × IsAccepted text' is × Within image may_leave moment reach said asked from now (language_of is) text' h' lines
-
-  pub goes-all : (lines : List Line) → Went lines → GoesWithin lines text h
-  goes-all lines went = (exec.program, here.file.1, within-all size image may_leave moment reach said asked from now exec.program text h lines (done lines went))
+  pub goes-all : (lines : List Line) → Went lines → Whole image may_leave moment reach said asked from now lines text h
+  goes-all lines went = (exec.program, here.file.1, done lines went)
 
   pub goes-within : {T E : Type 0} (result : Result T E) (fault : E) → result ≡ Err fault → (script : Text)
-      → OnErr result (StoppedIn size image may_leave moment reach said asked from now exec text h [] script) → GoesWithin (script_lines script) text h
+      → OnErr result (StoppedIn size image may_leave moment reach said asked from now exec text h [] script)
+      → Part image may_leave moment reach said asked from now (script_lines script) text h
   goes-within result fault is script stopped =
       let part : StoppedIn size image may_leave moment reach said asked from now exec text h [] script = of-err result fault is stopped in
       (exec.program, here.file.1, within-script size image may_leave moment reach said asked reads crash from now exec text h script part)
 
   pub goes-first : {T E : Type 0} (result : Result T E) (fault : E) → result ≡ Err fault → (line : Line)
-      → OnErr result (Stopped image moment reach said asked from now (language_of items) Loud text h [] line) → GoesWithin (line ∷ []) text h
+      → OnErr result (Stopped image moment reach said asked from now (language_of items) Loud text h [] line)
+      → Part image may_leave moment reach said asked from now (line ∷ []) text h
   goes-first result fault is line stopped =
       let at : Stopped image moment reach said asked from now (language_of items) Loud text h [] line = of-err result fault is stopped in
       (items, opened.file.1, within-first size image may_leave moment reach said asked from now items text h line at)
 
+  pub goes-failed : (script : Text) → ReplyFailedIn image may_leave moment reach said asked from now (language_of items) text h [] script
+      → Failed image may_leave moment reach said asked from now script text h
+  goes-failed script failed = (items, opened.file.1, failed)
+
+  pub drain-failed : (line : Line) → ReplyFailed image may_leave moment reach said asked from now (language_of items) text h [] line
+      → DrainFailed image may_leave moment reach said asked from now line text h
+  drain-failed line failed = (items, opened.file.1, failed)
+
   pub goes-cut : (script : Text) → (2 ^ 26 < length script) × Went (ended_script_lines (take (2 ^ 26) script))
-      → IsCutOff image may_leave moment reach said asked from now text h script []
-  goes-cut script went = (exec.program, here.file.1, went.0, done (ended_script_lines (take (2 ^ 26) script)) went.1)
+      → CutOff image may_leave moment reach said asked from now script text h
+  goes-cut script went = (exec.program, here.file.1, (went.0, done (ended_script_lines (take (2 ^ 26) script)) went.1))

@@ -49,12 +49,6 @@ module _ {D : Type 0} (size : D → Option ℕ) (image : D → Option Text) (may
         leaves = leaves-held image may_leave moment reach said asked from now s.after.history (length h) s.marks s.leaves;
       }
 
-  -- all of the lines
-  pub within-all : (from now : D) (items : List Item) (text : Text) (h : List Entry) (lines : List Line)
-      → Answered image may_leave moment reach said asked from now (language_of items) text h lines []
-      → Within image may_leave moment reach said asked from now (language_of items) text h lines
-  within-all from now items text h lines a = (lines, [], sym (append-nil lines), inl a)
-
   -- a line that ended early, with none before it
   pub within-first : (from now : D) (items : List Item) (text : Text) (h : List Entry) (line : Line)
       → Stopped image moment reach said asked from now (language_of items) Loud text h [] line

@@ -1,5 +1,5 @@
 -- However a call has ended that began on a history: how far it has come, and what a crash leaves.
-use Rattle.std.specs.Prelude.{◌≡◌, ◌⊎◌, ℕ, ◌<◌, ◌^◌, List, [], ◌∷◌, ◌++◌, length, take, Option, Some}
+use Rattle.std.specs.Prelude.{◌≡◌, ◌⊎◌, ℕ, ◌<◌, ◌^◌, List, [], ◌∷◌, ◌++◌, length, take, Option, Some, None}
 use Rattle.std.specs.Option.{ForSome}
 use Rattle.fn_tree.specs.declared.program.Item.{Item}
 use Rattle.r3_entry.specs.declared.entry.Entry.{Entry}
@@ -18,16 +18,14 @@ use Rattle.r3_session.specs.Begun.{StopsOpening}
 use Rattle.r3_serve.specs.Held.{LeavesHeld, asked_marks}
 use Rattle.r3_serve.specs.Served.{Loud, Quiet, Calls, Stopped}
 use Rattle.r3_serve.specs.Scripted.{script_lines, ended_script_lines}
-use Rattle.r3_gen.specs.Ran.{HasSaid}
+use Rattle.r3_serve.specs.Failed.{ReplyFailed, ReplyFailedIn}
+use Rattle.r3_gen.specs.Ran.{Ran, HasSaid, SummaryFailed}
 use Rattle.r3_top.specs.Functions.{IsAccepted}
-use Rattle.r3_top.specs.Statuses.{last_line}
+use Rattle.r3_top.specs.Refusals.{IsFileRefusal}
+use Rattle.r3_top.specs.Statuses.{HasLine, last_line}
 use Rattle.r3_top.specs.Answered.{Says, Answered, LeavesPrefix}
 use Rattle.r3_top.specs.declared.halt.Halt.{Halt}
 use Rattle.r3_top.specs.declared.halt.Halt.TheVariants as halts
-
--- some last line, or a first part of one
-abbrev pub IsCut : Text → Type 0
-IsCut line = (halt : Halt) × (rest : Text) × (line ++ rest ≡ last_line halt)
 
 -- Nothing was done of it: at most this line was said. A crash now leaves the history as it was.
 pub record Unbegun {D : Type 0} (told_image : D → Option Text) (may_leave : D → Text → Type 0) (moment : D → ℕ) (reach : D → Reach) (said : D → Option Text) (asked : D → Option (List desk.Call)) (from now : D) (h : List Entry) (line : Text) : Type 0 where
@@ -49,6 +47,10 @@ pub record Unsaid {D : Type 0} (told_image : D → Option Text) (may_leave : D �
   pub settled : (image : Text) → may_leave now image → IsHistoryOf after.history image
   pub leaves : LeavesHeld moment reach said asked from now after.history (length h) (asked_marks marks)
 
+-- no work was begun
+abbrev pub NoWork : Language → Option Halt → Text → Type 0
+NoWork P end line = ⊥
+
 module _ {D : Type 0} (told_image : D → Option Text) (may_leave : D → Text → Type 0) (moment : D → ℕ) (reach : D → Reach) (said : D → Option Text) (asked : D → Option (List desk.Call)) (from now : D) where
   -- the opening ended early, and no line was answered
   abbrev pub Opening : Language → Text → List Entry → Type 0
@@ -63,27 +65,61 @@ module _ {D : Type 0} (told_image : D → Option Text) (may_leave : D → Text �
       ⊎ ((line : Line) × (more : List Line) × (later ≡ line ∷ more)
       × Stopped told_image moment reach said asked from now P Loud text h done line))
 
-  -- The script is too long: the lines that end within the limit were answered, and behind their replies this was said.
-  abbrev pub IsCutOff : Text → List Entry → Text → Text → Type 0
-  IsCutOff text h script line =
-      (items : List Item) × IsAccepted text items × (2 ^ 26 < length script)
-      × Answered told_image may_leave moment reach said asked from now (language_of items) text h (ended_script_lines (take (2 ^ 26) script)) line
+  -- so it did, with the functions of this text
+  abbrev pub OpensEarly : Text → List Entry → Type 0
+  OpensEarly text h = (items : List Item) × IsAccepted text items × Opening (language_of items) text h
 
-  -- no line was answered
-  abbrev pub NotBegun : Text → List Entry → Type 0
-  NotBegun text h =
-      ((line : Text) × IsCut line × Unbegun told_image may_leave moment reach said asked from now h line)
-      ⊎ ((items : List Item) × IsAccepted text items × Opening (language_of items) text h)
+  -- so much of its work was done, with the functions of this text
+  abbrev pub AtWork : Text → (Language → Option Halt → Text → Type 0) → Option Halt → Text → Type 0
+  AtWork text Work end line = (items : List Item) × IsAccepted text items × Work (language_of items) end line
 
-  abbrev pub RunGoes : Text → List Entry → Text → Type 0
-  RunGoes text h script =
-      NotBegun text h ⊎ ((line : Text) × IsCut line × IsCutOff text h script line)
-      ⊎ ((items : List Item) × IsAccepted text items × Within (language_of items) text h (script_lines script))
+  -- How a call has gone, by what has ended it, and behind all that it did it has said this line: the function file was
+  -- refused; the opening ended early; or so much of its work was done. The store is never refused.
+  abbrev pub Goes : Text → List Entry → (Language → Option Halt → Text → Type 0) → Option Halt → Text → Type 0
+  Goes text h Work (Some halts.Usage) line = ⊥
+  Goes text h Work (Some (halts.Store entry)) line = ⊥
+  Goes text h Work (Some halts.Program) line = ⊥
+  Goes text h Work (Some halts.Files) line = Unbegun told_image may_leave moment reach said asked from now h line
+  Goes text h Work (Some halts.LongFile) line =
+      IsFileRefusal text (Some halts.LongFile) × Unbegun told_image may_leave moment reach said asked from now h line
+  Goes text h Work (Some (halts.Functions fault)) line =
+      IsFileRefusal text (Some (halts.Functions fault)) × Unbegun told_image may_leave moment reach said asked from now h line
+  Goes text h Work (Some halts.Disk) line = OpensEarly text h ⊎ AtWork text Work (Some halts.Disk) line
+  Goes text h Work (Some halts.Memory) line =
+      Unbegun told_image may_leave moment reach said asked from now h line
+      ⊎ (OpensEarly text h ⊎ AtWork text Work (Some halts.Memory) line)
+  Goes text h Work end line = AtWork text Work end line
 
-  abbrev pub RecoverGoes : Text → List Entry → ℕ → Type 0
-  RecoverGoes text h turns =
-      NotBegun text h
-      ⊎ ((items : List Item) × IsAccepted text items × Within (language_of items) text h (Drain turns ∷ []))
+  -- Of a script: all of its lines; those that end within the limit, where it is too long; or up to the reply that failed to
+  -- be said; else those before some line.
+  abbrev pub OfScript : Text → List Entry → Text → Language → Option Halt → Text → Type 0
+  OfScript text h script P None line =
+      Answered told_image may_leave moment reach said asked from now P text h (script_lines script) line
+  OfScript text h script P (Some halts.LongScript) line =
+      (2 ^ 26 < length script)
+      × Answered told_image may_leave moment reach said asked from now P text h (ended_script_lines (take (2 ^ 26) script)) line
+  OfScript text h script P (Some halts.Script) line = Within P text h (script_lines script)
+  OfScript text h script P (Some halts.Disk) line = Within P text h (script_lines script)
+  OfScript text h script P (Some halts.Memory) line = Within P text h (script_lines script)
+  OfScript text h script P (Some halts.Say) line =
+      ReplyFailedIn told_image may_leave moment reach said asked from now P text h [] script
+  OfScript text h script P end line = ⊥
+
+  abbrev pub RunGoes : Text → List Entry → Text → Option Halt → Text → Type 0
+  RunGoes text h script end line = Goes text h (OfScript text h script) end line
+
+  -- of a drain
+  abbrev pub OfDrain : Text → List Entry → ℕ → Language → Option Halt → Text → Type 0
+  OfDrain text h turns P None line =
+      Answered told_image may_leave moment reach said asked from now P text h (Drain turns ∷ []) line
+  OfDrain text h turns P (Some halts.Disk) line = Within P text h (Drain turns ∷ [])
+  OfDrain text h turns P (Some halts.Memory) line = Within P text h (Drain turns ∷ [])
+  OfDrain text h turns P (Some halts.Say) line =
+      ReplyFailed told_image may_leave moment reach said asked from now P text h [] (Drain turns)
+  OfDrain text h turns P end line = ⊥
+
+  abbrev pub RecoverGoes : Text → List Entry → ℕ → Option Halt → Text → Type 0
+  RecoverGoes text h turns end line = Goes text h (OfDrain text h turns) end line
 
   -- of lines whose replies aren't said, those before some line were answered, and a part of it at most
   abbrev pub WithinUnsaid : Language → Text → List Entry → List Line → Type 0
@@ -100,17 +136,22 @@ module _ {D : Type 0} (told_image : D → Option Text) (may_leave : D → Text �
       ⊎ ((part : Text) × (rest : Text)
       × HasSaid told_image moment reach said asked from now P text h (generated number count) count part rest)
 
-  abbrev pub GenGoes : Text → List Entry → ℕ → ℕ → Type 0
-  GenGoes text h number count =
-      NotBegun text h
-      ⊎ ((items : List Item) × IsAccepted text items × Generating (language_of items) text h number count)
+  -- Of the generator's lines: all of them with their summary; else those before some line, or all with a part of it.
+  abbrev pub OfGenerated : Text → List Entry → ℕ → ℕ → Language → Option Halt → Text → Type 0
+  OfGenerated text h number count P None line =
+      Ran told_image moment reach said asked from now P text h (generated number count) count
+  OfGenerated text h number count P (Some halts.Disk) line = Generating P text h number count
+  OfGenerated text h number count P (Some halts.Memory) line = Generating P text h number count
+  OfGenerated text h number count P (Some halts.Say) line =
+      SummaryFailed told_image moment reach said asked from now P text h (generated number count) count
+  OfGenerated text h number count P end line = ⊥
 
--- what has gone before a last line: nothing, where the function file is refused; a script that is too long; else none is said
-abbrev pub Before : Type 0 → Type 0 → Type 0 → Option Halt → Type 0
-Before Nothing Cut Goes (Some halts.Usage) = ⊥
-Before Nothing Cut Goes (Some (halts.Functions fault)) = Nothing
-Before Nothing Cut Goes (Some (halts.Store entry)) = ⊥
-Before Nothing Cut Goes (Some halts.Program) = ⊥
-Before Nothing Cut Goes (Some halts.LongFile) = Nothing
-Before Nothing Cut Goes (Some halts.LongScript) = Cut
-Before Nothing Cut Goes end = Goes
+  abbrev pub GenGoes : Text → List Entry → ℕ → ℕ → Option Halt → Text → Type 0
+  GenGoes text h number count end line = Goes text h (OfGenerated text h number count) end line
+
+-- The output has failed: at the reply of a line, with each one before said whole and in order, and nothing else; or at
+-- the last line, of which this first part was said.
+abbrev pub FailsToSay : (Option Halt → Text → Type 0) → Type 0
+FailsToSay Goes =
+    Goes (Some halts.Say) []
+    ⊎ ((halt : Halt) × (part : Text) × (rest : Text) × HasLine halt × (part ++ rest ≡ last_line halt) × Goes (Some halt) part)

@@ -24,6 +24,14 @@ IsFileRefusal text end = ⊥
 abbrev pub IsFile : Text → List Item → Type 0
 IsFile text items = (length text ≤ 2 ^ 20) × IsAccepted text items
 
+abbrev pub IsFunctionFile : Text → Type 0
+IsFunctionFile text = (items : List Item) × IsFile text items
+
+-- what a call ends with that goes no further than the function file
+abbrev pub EndsAtFile : Text → Option Halt → Type 0
+EndsAtFile text (Some halts.Memory) = ⊤
+EndsAtFile text end = IsFileRefusal text end
+
 -- the image is no store, and this entry is the cause: the first that is damaged, else the first that isn't formed
 abbrev pub IsNoStore : Option Text → ℕ → Type 0
 IsNoStore image entry =
@@ -35,8 +43,8 @@ IsOthers text image = ForSome image (λ i. IsStore i × ((h : List Entry) → Is
 
 -- What a call on a store is refused for. The function file comes first.
 abbrev pub IsRefusal : Text → Option Text → Option Halt → Type 0
-IsRefusal text image (Some (halts.Store entry)) = ((items : List Item) × IsFile text items) × IsNoStore image entry
-IsRefusal text image (Some halts.Program) = ((items : List Item) × IsFile text items) × IsOthers text image
+IsRefusal text image (Some (halts.Store entry)) = IsFunctionFile text × IsNoStore image entry
+IsRefusal text image (Some halts.Program) = IsFunctionFile text × IsOthers text image
 IsRefusal text image end = IsFileRefusal text end
 
 -- the functions are those of the file, and the store holds this history, begun with them

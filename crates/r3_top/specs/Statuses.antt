@@ -1,5 +1,5 @@
 -- The status and the last line of a call that is halted.
-use Rattle.std.specs.Prelude.{◌≡◌, ◌⊎◌, ℕ, [], Option, Some, None, ⊤, codes}
+use Rattle.std.specs.Prelude.{◌≡◌, ◌≢◌, ◌⊎◌, ℕ, ◌≤◌, [], ◌++◌, Option, Some, None, ⊤, codes}
 use Rattle.serde_json.specs.Data.{Data, number, unsigned, string, object, member, no_members}
 use Rattle.r3_json.specs.Lines as json
 use Rattle.r3_store.specs.declared.fault.OpenFault.{OpenFault}
@@ -47,6 +47,15 @@ last_line halts.LongFile = json.line_of (one (codes "long"))
 last_line halts.LongScript = json.line_of (one (codes "long"))
 last_line halt = []
 
+-- there is such a line
+abbrev pub HasLine : Halt → Type 0
+HasLine halts.Memory = ⊥
+HasLine halts.Disk = ⊥
+HasLine halts.Say = ⊥
+HasLine halts.Files = ⊥
+HasLine halts.Script = ⊥
+HasLine halt = ⊤
+
 -- of a call that was halted, or has come to its end
 abbrev pub status : Option Halt → ℕ
 status None = 0
@@ -66,3 +75,24 @@ IsBroken end = ⊥
 -- their statuses
 abbrev pub IsFault : ℕ → Type 0
 IsFault answer = (answer ≡ 3) ⊎ (answer ≡ 4) ⊎ (answer ≡ 5)
+
+-- the statuses that there are
+abbrev pub IsStatus : ℕ → Type 0
+IsStatus answer = (answer ≤ 10) × (answer ≢ 1)
+
+-- there was no memory, or what the status names has failed
+abbrev pub HasFailed : Type 0 → Type 0 → Type 0 → ℕ → Type 0
+HasFailed Disk Say Input answer =
+    (answer ≡ 3) ⊎ ((answer ≡ 4) × Disk) ⊎ ((answer ≡ 5) × Say) ⊎ ((answer ≡ 6) × Input)
+
+-- The line that was said last, by the status: the whole line with the status of the end; of it a first part, where the
+-- output has failed; and none, where there was no memory for it.
+abbrev pub IsLast : Option Halt → ℕ → Text → Type 0
+IsLast None answer line = (answer ≡ 0) × (line ≡ [])
+IsLast (Some halt) answer line =
+    ((answer ≡ status_of halt) × (line ≡ last_line halt))
+    ⊎ (HasLine halt × (((answer ≡ 5) × (rest : Text) × (line ++ rest ≡ last_line halt)) ⊎ ((answer ≡ 3) × (line ≡ []))))
+
+-- how a call has gone, with its last line
+abbrev pub GoesAs : (Option Halt → Text → Type 0) → ℕ → Type 0
+GoesAs Goes answer = (end : Option Halt) × (line : Text) × IsLast end answer line × Goes end line

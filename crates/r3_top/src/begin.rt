@@ -1,6 +1,6 @@
 //! The function file and the store of a command.
 
-ghost use Rattle.std.specs.Prelude.{◌≡◌, ◌⊎◌, List, [], false, Err, Some, IfOk, IfErr};
+ghost use Rattle.std.specs.Prelude.{◌≡◌, ◌⊎◌, List, [], false, Err, Some, IfOk, IfErr, OnErr};
 ghost use Rattle.std.specs.Option.{ForSome};
 ghost use Rattle.r3_desk.specs.Causes.{Rose};
 ghost use Rattle.r3_desk.specs.Crash.{NothingPending};
@@ -10,9 +10,13 @@ ghost use Rattle.r3_model.specs.Language.{Text};
 ghost use Rattle.r3_recover.specs.Opened.{HasProgram};
 ghost use Rattle.r3_serve.specs.Served.{Loud, Served};
 ghost use Rattle.r3_top.specs.Statuses.{IsBroken};
-ghost use Rattle.r3_top.specs.Refusals.{IsEarly, IsOpened, IsRefusal};
+ghost use Rattle.r3_top.specs.Functions.{IsRefused};
+ghost use Rattle.r3_top.specs.Refusals.{EndsAtFile, IsEarly, IsFunctionFile, IsOpened, IsRefusal};
+ghost use Rattle.r3_top.specs.Causes.{HasEarlyCause};
 ghost use Rattle.r3_top.specs.Answered.{Says};
-ghost use Rattle.r3_top.specs.Going.{Before, NotBegun, Unbegun};
+ghost use Rattle.r3_top.specs.Going.{Goes, NoWork};
+ghost use Rattle.r3_top.specs.Ends.{end_of};
+ghost use Rattle.r3_top.specs.declared.functions.FunctionsFault.{FunctionsFault};
 
 use crate::files::{accept, fetch};
 use crate::halt::{Halt, entry_of};
@@ -39,16 +43,25 @@ pub fn begin<D: Desk, F: Shelf>(
         IfErr result (λ halt. IsBroken (Some halt)
         ⊎ (IsRefusal text (D.image desk.old) (Some halt) × Says D.image D.said D.asked desk.old desk.new [])) }
 
+    ensures faultless { (text : Text) → F.text_of shelf.old path.now ≡ Some text →
+        IfOk result (λ _. (fault : FunctionsFault) → IsRefused text fault → ⊥) }
+    ensures causes { (text : Text) → F.text_of shelf.old path.now ≡ Some text →
+        IfErr result (λ halt. HasEarlyCause text (D.image desk.old) (Some halt)) }
+
+    // The disk isn't touched before the function file is taken.
+    ensures file_first { (text : Text) → F.text_of shelf.old path.now ≡ Some text → (IsFunctionFile text → ⊥) →
+        (desk.new ≡ desk.old) × EndsAtFile text (end_of result) }
+    ensures unsaid { OnErr result ((D.said desk.new ≡ D.said desk.old) × (D.asked desk.new ≡ D.asked desk.old)) }
+
     // Where the store is this program's, nothing was done, or the opening may not be settled.
     ensures goes { (text image : Text) (h : List Entry) → F.text_of shelf.old path.now ≡ Some text →
         D.image desk.old ≡ Some image → IsHistoryOf h image → HasProgram h text →
-        IfErr result (λ halt. Before (Unbegun D.image D.may_leave D.moment D.reach D.said D.asked desk.old desk.new h []) ⊥
-        (NotBegun D.image D.may_leave D.moment D.reach D.said D.asked desk.old desk.new text h) (Some halt)) }
+        IfErr result (λ halt. Goes D.image D.may_leave D.moment D.reach D.said D.asked desk.old desk.new text h NoWork (Some halt) []) }
     ensures early { IfErr result IsEarly }
     ensures disk { result ≡ Err Halt.Disk → Rose (D.disk_faults desk.old) (D.disk_faults desk.new) }
     ensures disk_kept { (result ≡ Err Halt.Disk → ⊥) → D.disk_faults desk.new ≡ D.disk_faults desk.old }
     ensures say_faults { D.say_faults desk.new ≡ D.say_faults desk.old }
-    ensures files { result ≡ Err Halt.Files → Rose (F.faults shelf.old) (F.faults shelf.new) }
+    ensures files { result ≡ Err Halt.Files → Rose (F.faults shelf.old) (F.faults shelf.new) × (desk.new ≡ desk.old) }
     ensures files_kept { (result ≡ Err Halt.Files → ⊥) → F.faults shelf.new ≡ F.faults shelf.old }
 {
     let text = match fetch(alloc, shelf, path) {

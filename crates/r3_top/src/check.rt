@@ -1,11 +1,12 @@
 //! The command `check`.
 
-ghost use Rattle.std.specs.Prelude.{◌≡◌, ◌⊎◌, [], Err, Option, Some, IfErr};
+ghost use Rattle.std.specs.Prelude.{◌≡◌, ◌⊎◌, [], Err, Option, Some};
 ghost use Rattle.r3_desk.specs.Causes.{Rose};
 ghost use Rattle.r3_model.specs.Language.{Text};
 ghost use Rattle.r3_words.specs.Forms.{check as check_form};
 ghost use Rattle.r3_top.specs.Causes.{HasCause};
 ghost use Rattle.r3_top.specs.Statuses.{IsBroken};
+ghost use Rattle.r3_top.specs.Refusals.{EndsAtFile, IsFunctionFile};
 ghost use Rattle.r3_top.specs.Ends.{CheckComes, end_of};
 
 use crate::counts::counts_line;
@@ -24,7 +25,11 @@ pub fn check<D: Desk, F: Shelf>(
     ensures comes { (text : Text) → F.text_of shelf.old path.now ≡ Some text →
         IsBroken (end_of result) ⊎ CheckComes D.image D.said D.asked desk.old desk.new text (end_of result) [] }
     ensures causes { (text : Text) (image left : Option Text) → F.text_of shelf.old path.now ≡ Some text →
-        IfErr result (HasCause (check_form path.now) text image left) }
+        HasCause (check_form path.now) text image left (end_of result) }
+
+    // The function file comes first.
+    ensures file_first { (text : Text) → F.text_of shelf.old path.now ≡ Some text → (IsFunctionFile text → ⊥) →
+        (desk.new ≡ desk.old) × EndsAtFile text (end_of result) }
     ensures image { D.image desk.new ≡ D.image desk.old }
     ensures disk_faults { D.disk_faults desk.new ≡ D.disk_faults desk.old }
     ensures disk { result ≡ Err Halt.Disk → ⊥ }
@@ -32,7 +37,7 @@ pub fn check<D: Desk, F: Shelf>(
     ensures script { result ≡ Err Halt.Script → ⊥ }
     ensures say { result ≡ Err Halt.Say → Rose (D.say_faults desk.old) (D.say_faults desk.new) }
     ensures say_kept { (result ≡ Err Halt.Say → ⊥) → D.say_faults desk.new ≡ D.say_faults desk.old }
-    ensures files { result ≡ Err Halt.Files → Rose (F.faults shelf.old) (F.faults shelf.new) }
+    ensures files { result ≡ Err Halt.Files → Rose (F.faults shelf.old) (F.faults shelf.new) × (desk.new ≡ desk.old) }
     ensures files_kept { (result ≡ Err Halt.Files → ⊥) → F.faults shelf.new ≡ F.faults shelf.old }
 {
     let text = match fetch(alloc, shelf, path) {

@@ -1,9 +1,11 @@
 //! The function file of a command.
 
-ghost use Rattle.std.specs.Prelude.{◌≡◌, ◌⊎◌, ◌≤◌, ◌<◌, ◌^◌, Err, IfOk, OnErr, length};
+ghost use Rattle.std.specs.Prelude.{◌≡◌, ◌⊎◌, ◌≤◌, ◌<◌, ◌^◌, List, Err, IfOk, OnErr, length};
 ghost use Rattle.std.specs.Option.{ForSome};
+ghost use Rattle.fn_tree.specs.declared.program.Item.{Item};
 ghost use Rattle.r3_desk.specs.Causes.{Rose};
 ghost use Rattle.r3_top.specs.Functions.{IsAccepted, IsRefused};
+ghost use Rattle.r3_top.specs.declared.functions.FunctionsFault.{FunctionsFault};
 
 use crate::functions::{NoFunctions, functions_of};
 use crate::halt::Halt;
@@ -35,7 +37,10 @@ pub fn fetch<F: Shelf>(alloc: Global, shelf: &mut F, path: &str) -> Result<Vec<u
 pub fn accept(alloc: Global, text: &[u8]) -> Result<Checked, Halt>
     requires { length text.now ≤ 2 ^ 20 }
     ensures accepted { IfOk result (λ program. IsAccepted text.now program) }
+    ensures faultless { IfOk result (λ _. (fault : FunctionsFault) → IsRefused text.now fault → ⊥) }
     ensures refused { (fault : _) → result ≡ Err (Halt.Functions fault) → IsRefused text.now fault }
+    ensures none { (fault : _) → result ≡ Err (Halt.Functions fault) →
+        (items : List Item) → IsAccepted text.now items → ⊥ }
     ensures halts { OnErr result ((result ≡ Err Halt.Memory) ⊎ ((fault : _) × (result ≡ Err (Halt.Functions fault)))) }
 {
     match functions_of(alloc, text) {

@@ -1,6 +1,6 @@
 //! The command `gen`.
 
-ghost use Rattle.std.specs.Prelude.{◌≡◌, ◌⊎◌, ◌≤◌, ◌^◌, List, [], length, Err, Option, IfErr};
+ghost use Rattle.std.specs.Prelude.{◌≡◌, ◌⊎◌, ◌≤◌, ◌^◌, List, [], length, Err, Option, Some, IfErr};
 ghost use Rattle.r3_desk.specs.Causes.{Rose};
 ghost use Rattle.r3_desk.specs.Crash.{NothingPending};
 ghost use Rattle.r3_entry.specs.declared.entry.Entry.{Entry};
@@ -8,10 +8,11 @@ ghost use Rattle.r3_entry.specs.Image.{IsHistoryOf};
 ghost use Rattle.r3_model.specs.Language.{Text};
 ghost use Rattle.r3_recover.specs.Opened.{HasProgram};
 ghost use Rattle.r3_words.specs.Forms.{gen as gen_form};
-ghost use Rattle.r3_top.specs.Causes.{HasCause};
+ghost use Rattle.r3_top.specs.Causes.{HasCause, IsReady};
 ghost use Rattle.r3_top.specs.Statuses.{IsBroken};
-ghost use Rattle.r3_top.specs.Refusals.{ReadsNone};
-ghost use Rattle.r3_top.specs.Going.{Before, GenGoes, Unbegun};
+ghost use Rattle.r3_top.specs.Refusals.{EndsAtFile, IsFunctionFile, ReadsNone};
+ghost use Rattle.r3_top.specs.Closes.{EndsAtStore};
+ghost use Rattle.r3_top.specs.Going.{GenGoes};
 ghost use Rattle.r3_top.specs.Ends.{GenComes, end_of};
 
 use crate::files::accept;
@@ -36,9 +37,14 @@ pub fn generate<D: Desk>(
     ensures comes { IsBroken (end_of result) ⊎ GenComes D.image D.may_leave D.moment D.reach D.said D.asked desk.old desk.new
         number count text.now (end_of result) [] }
     ensures goes { (image : Text) (h : List Entry) → D.image desk.old ≡ Some image → IsHistoryOf h image → HasProgram h text.now →
-        Before (Unbegun D.image D.may_leave D.moment D.reach D.said D.asked desk.old desk.new h []) ⊥
-        (GenGoes D.image D.may_leave D.moment D.reach D.said D.asked desk.old desk.new text.now h number count) (end_of result) }
-    ensures causes { (left : Option Text) → IfErr result (HasCause (gen_form number count) text.now (D.image desk.old) left) }
+        GenGoes D.image D.may_leave D.moment D.reach D.said D.asked desk.old desk.new text.now h number count (end_of result) [] }
+    ensures causes { (left : Option Text) →
+        HasCause (gen_form number count) text.now (D.image desk.old) left (end_of result) }
+
+    // The functions come first, and then the store.
+    ensures file_first { (IsFunctionFile text.now → ⊥) → (desk.new ≡ desk.old) × EndsAtFile text.now (end_of result) }
+    ensures store_first { (image : Text) → D.image desk.old ≡ Some image → (IsReady text.now (Some image) → ⊥) →
+        EndsAtStore D.image D.said D.asked desk.old desk.new text.now (end_of result) [] }
     ensures reads_none { IfErr result ReadsNone }
     ensures usage { result ≡ Err Halt.Usage → ⊥ }
     ensures files { result ≡ Err Halt.Files → ⊥ }

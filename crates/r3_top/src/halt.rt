@@ -1,10 +1,10 @@
 //! Why a call of the program ends before all is done.
 
-ghost use Rattle.std.specs.Prelude.{◌≡◌, IfOk};
+ghost use Rattle.std.specs.Prelude.{◌≡◌, IfOk, OnErr};
 ghost use Rattle.serde_json.specs.View.{view};
 ghost use Rattle.r3_json.specs.Lines.{line_of};
 ghost use Rattle.r3_top.specs.Functions.{kind_word, place_data, item_data, functions_data};
-ghost use Rattle.r3_top.specs.Statuses.{entry_of, last_line, one, status_of, store_data};
+ghost use Rattle.r3_top.specs.Statuses.{HasLine, entry_of, last_line, one, status_of, store_data};
 
 use crate::functions::FunctionsFault;
 use fn_check::CheckKind;
@@ -136,9 +136,10 @@ fn store_line(alloc: Global, entry: u32) -> Result<Vec<u8>, Memory>
     line(alloc, &json)
 }
 
-/// What is said last; nothing where something has failed.
+/// What is said last; nothing where something has failed, and this takes no memory.
 pub fn last_line(alloc: Global, halt: Halt) -> Result<Vec<u8>, Memory>
-    ensures { IfOk result (λ text. text.items ≡ last_line halt) }
+    ensures line { IfOk result (λ text. text.items ≡ last_line halt) }
+    ensures memory { OnErr result (HasLine halt) }
 {
     match halt {
         Halt::Usage => word_line(alloc, "usage"),

@@ -5,6 +5,7 @@
 
 mod begin;
 mod check;
+mod command;
 mod counts;
 mod files;
 mod functions;

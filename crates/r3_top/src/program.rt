@@ -1,6 +1,6 @@
 //! The whole program, over any environment.
 
-ghost use Rattle.std.specs.Prelude.{◌≡◌, ◌⊎◌, ◌<◌, ◌^◌, ℕ, true, [], List, length, Err, Some, None, IfErr, OnOk, map, string_bytes};
+ghost use Rattle.std.specs.Prelude.{◌≡◌, ◌⊎◌, ◌<◌, ◌^◌, ℕ, true, List, length, Some, None, map, string_bytes, ⊤};
 ghost use Rattle.std.specs.Option.{ForSome};
 ghost use Rattle.r3_desk.specs.Causes.{Rose};
 ghost use Rattle.r3_desk.specs.Crash.{NothingPending};
@@ -9,113 +9,32 @@ ghost use Rattle.r3_entry.specs.Image.{IsHistoryOf};
 ghost use Rattle.r3_model.specs.Language.{Text};
 ghost use Rattle.r3_recover.specs.Opened.{HasProgram};
 ghost use Rattle.r3_words.specs.Forms.{Form, run as run_form, recover as recover_form, check as check_form, gen as gen_form};
-ghost use Rattle.r3_top.specs.Commands.{asked_by, file_of};
+ghost use Rattle.r3_top.specs.Commands.{OnStore, asked_by, file_of, functions_text};
 ghost use Rattle.r3_top.specs.Functions.{IsRefused};
-ghost use Rattle.r3_top.specs.Statuses.{IsBroken, IsFault, last_line, status_of};
-ghost use Rattle.r3_top.specs.Refusals.{IsNoStore, IsOthers, ReadsNone};
-ghost use Rattle.r3_top.specs.Causes.{HasCause, HasScript, HasStore, IsReady, IsTaken};
-ghost use Rattle.r3_top.specs.Answered.{Says};
-ghost use Rattle.r3_top.specs.Going.{Before, GenGoes, IsCutOff, RecoverGoes, RunGoes, Unbegun};
-ghost use Rattle.r3_top.specs.Ends.{CheckComes, EndsAs, GenComes, RecoverComes, RunComes, end_of};
-ghost use Rattle.r3_top.specs.Closes.{IsSilent, SaysLast};
+ghost use Rattle.r3_top.specs.Statuses.{GoesAs, HasLine, IsFault, IsStatus, status_of};
+ghost use Rattle.r3_top.specs.Refusals.{EndsAtFile, IsFunctionFile, IsNoStore, IsOthers};
+ghost use Rattle.r3_top.specs.Causes.{HasScript, HasStore, IsReady, IsStatusOf, IsTaken};
+ghost use Rattle.r3_top.specs.Closes.{CallsNeither, EndsAtOnce, EndsAtStore};
+ghost use Rattle.r3_top.specs.Going.{FailsToSay, GenGoes, RecoverGoes, RunGoes};
+ghost use Rattle.r3_top.specs.Ends.{CheckComes, EndsAs, GenComes, RecoverComes, RunComes};
 ghost use Rattle.r3_top.specs.declared.functions.FunctionsFault.{FunctionsFault};
+ghost use Rattle.r3_top.specs.declared.halt.Halt.{Halt as Halted};
 ghost use Rattle.r3_top.specs.declared.halt.Halt.TheVariants as halts;
 
-use crate::check::check;
-use crate::generate::generate;
+use crate::command::command;
 use crate::halt::{Halt, last_line, status_of};
-use crate::run::{recover, run};
 use r3_desk::{Desk, Shelf, Source};
 use r3_gen::BANK;
-use r3_words::{Command, read};
 use std::alloc::Global;
-
-// Does what the words say.
-fn command<D: Desk, S: Source, F: Shelf>(
-    alloc: Global,
-    words: &[String],
-    desk: &mut D,
-    script: &mut S,
-    shelf: &mut F,
-) -> Result<(), Halt>
-    requires { NothingPending (D.image desk.old) (D.may_leave desk.old) }
-    ensures runs { (functions text : Text) → asked_by (map string_bytes words.now) ≡ Some (run_form functions) →
-        F.text_of shelf.old functions ≡ Some text →
-        IsBroken (end_of result) ⊎ RunComes D.image D.may_leave D.moment D.reach D.said D.asked desk.old desk.new
-        (S.left script.old) (S.left script.new) text (end_of result) [] }
-    ensures run_goes { (functions text image lines : Text) (h : List Entry) →
-        asked_by (map string_bytes words.now) ≡ Some (run_form functions) →
-        F.text_of shelf.old functions ≡ Some text → D.image desk.old ≡ Some image → S.left script.old ≡ Some lines →
-        IsHistoryOf h image → HasProgram h text →
-        Before (Unbegun D.image D.may_leave D.moment D.reach D.said D.asked desk.old desk.new h [])
-        (IsCutOff D.image D.may_leave D.moment D.reach D.said D.asked desk.old desk.new text h lines [])
-        (RunGoes D.image D.may_leave D.moment D.reach D.said D.asked desk.old desk.new text h lines) (end_of result) }
-    ensures recovers { (functions text : Text) (turns : ℕ) →
-        asked_by (map string_bytes words.now) ≡ Some (recover_form functions turns) →
-        F.text_of shelf.old functions ≡ Some text →
-        IsBroken (end_of result) ⊎ RecoverComes D.image D.may_leave D.moment D.reach D.said D.asked desk.old desk.new
-        turns text (end_of result) [] }
-    ensures recover_goes { (functions text image : Text) (turns : ℕ) (h : List Entry) →
-        asked_by (map string_bytes words.now) ≡ Some (recover_form functions turns) →
-        F.text_of shelf.old functions ≡ Some text → D.image desk.old ≡ Some image →
-        IsHistoryOf h image → HasProgram h text →
-        Before (Unbegun D.image D.may_leave D.moment D.reach D.said D.asked desk.old desk.new h []) ⊥
-        (RecoverGoes D.image D.may_leave D.moment D.reach D.said D.asked desk.old desk.new text h turns) (end_of result) }
-    ensures generates { (number count : ℕ) → asked_by (map string_bytes words.now) ≡ Some (gen_form number count) →
-        IsBroken (end_of result) ⊎ GenComes D.image D.may_leave D.moment D.reach D.said D.asked desk.old desk.new
-        number count BANK.now (end_of result) [] }
-    ensures gen_goes { (number count : ℕ) (image : Text) (h : List Entry) →
-        asked_by (map string_bytes words.now) ≡ Some (gen_form number count) →
-        D.image desk.old ≡ Some image → IsHistoryOf h image → HasProgram h BANK.now →
-        Before (Unbegun D.image D.may_leave D.moment D.reach D.said D.asked desk.old desk.new h []) ⊥
-        (GenGoes D.image D.may_leave D.moment D.reach D.said D.asked desk.old desk.new BANK.now h number count) (end_of result) }
-    ensures gen_causes { (number count : ℕ) → asked_by (map string_bytes words.now) ≡ Some (gen_form number count) →
-        IfErr result (HasCause (gen_form number count) BANK.now (D.image desk.old) (S.left script.old)) }
-    ensures gen_reads_none { (number count : ℕ) → asked_by (map string_bytes words.now) ≡ Some (gen_form number count) →
-        (script.new ≡ script.old) × (shelf.new ≡ shelf.old) × IfErr result ReadsNone }
-    ensures checks { (functions text : Text) → asked_by (map string_bytes words.now) ≡ Some (check_form functions) →
-        F.text_of shelf.old functions ≡ Some text →
-        IsBroken (end_of result) ⊎ CheckComes D.image D.said D.asked desk.old desk.new text (end_of result) [] }
-    ensures opens_no_store { (functions : Text) → asked_by (map string_bytes words.now) ≡ Some (check_form functions) →
-        (D.image desk.new ≡ D.image desk.old) × (D.disk_faults desk.new ≡ D.disk_faults desk.old) }
-    ensures no_command { asked_by (map string_bytes words.now) ≡ None →
-        (desk.new ≡ desk.old) × ((result ≡ Err Halt.Usage) ⊎ (result ≡ Err Halt.Memory)) }
-    ensures causes { (form : Form) (path text : Text) → asked_by (map string_bytes words.now) ≡ Some form →
-        file_of form ≡ Some path → F.text_of shelf.old path ≡ Some text →
-        IfErr result (HasCause form text (D.image desk.old) (S.left script.old)) }
-    ensures usage { result ≡ Err Halt.Usage → asked_by (map string_bytes words.now) ≡ None }
-    ensures disk { result ≡ Err Halt.Disk → Rose (D.disk_faults desk.old) (D.disk_faults desk.new) }
-    ensures disk_kept { (result ≡ Err Halt.Disk → ⊥) → D.disk_faults desk.new ≡ D.disk_faults desk.old }
-    ensures say { result ≡ Err Halt.Say → Rose (D.say_faults desk.old) (D.say_faults desk.new) }
-    ensures say_kept { (result ≡ Err Halt.Say → ⊥) → D.say_faults desk.new ≡ D.say_faults desk.old }
-    ensures files { result ≡ Err Halt.Files → Rose (F.faults shelf.old) (F.faults shelf.new) }
-    ensures files_kept { (result ≡ Err Halt.Files → ⊥) → F.faults shelf.new ≡ F.faults shelf.old }
-    ensures script { result ≡ Err Halt.Script → Rose (S.faults script.old) (S.faults script.new) }
-    ensures script_kept { (result ≡ Err Halt.Script → ⊥) → S.faults script.new ≡ S.faults script.old }
-    ensures ended { (functions : Text) → asked_by (map string_bytes words.now) ≡ Some (run_form functions) →
-        OnOk result (S.ended script.new ≡ true) }
-{
-    let line = match read(alloc, words) {
-        Ok(Some(line)) => line,
-        Ok(None) => return Err(Halt::Usage),
-        Err(_) => return Err(Halt::Memory),
-    };
-    match line.command {
-        Command::Run { functions } => run(alloc, functions, desk, script, shelf),
-        Command::Recover { functions, turns } => recover(alloc, functions, turns, desk, shelf),
-        Command::Check { functions } => check(alloc, functions, desk, shelf),
-        Command::Gen { number, count } => generate(alloc, BANK, number, count, desk),
-        _ => Err(Halt::Usage),
-    }
-}
 
 // Says the last line, and tells the status.
 fn end<D: Desk>(alloc: Global, desk: &mut D, halt: Halt) -> u8
-    ensures closes { (IsSilent halt result × (desk.new ≡ desk.old))
-        ⊎ SaysLast D.image D.may_leave D.moment D.reach D.said D.asked desk.old desk.new halt result }
+    ensures closes { EndsAtOnce D.image D.may_leave D.moment D.reach D.said D.asked desk.old desk.new halt result }
+    ensures neither { CallsNeither D.size D.syncs D.disk_faults D.ask_faults desk.old desk.new }
     ensures image { D.image desk.new ≡ D.image desk.old }
     ensures disk_faults { D.disk_faults desk.new ≡ D.disk_faults desk.old }
     ensures status { (result ≡ 3) ⊎ (result ≡ 5) ⊎ (result ≡ status_of halt) }
+    ensures own { (HasLine halt → ⊥) → result ≡ status_of halt }
     ensures say { result ≡ 5 → ((halt ≡ halts.Say) × (D.say_faults desk.new ≡ D.say_faults desk.old))
         ⊎ ((halt ≡ halts.Say → ⊥) × Rose (D.say_faults desk.old) (D.say_faults desk.new)) }
     ensures say_kept { (result ≡ 5 → ⊥) → D.say_faults desk.new ≡ D.say_faults desk.old }
@@ -169,14 +88,13 @@ pub fn top<D: Desk, S: Source, F: Shelf>(
         IsFault result ⊎ EndsAs (RecoverComes D.image D.may_leave D.moment D.reach D.said D.asked desk.old desk.new turns text) result }
     ensures generates { (number count : ℕ) → asked_by (map string_bytes words.now) ≡ Some (gen_form number count) →
         IsFault result ⊎ EndsAs (GenComes D.image D.may_leave D.moment D.reach D.said D.asked desk.old desk.new number count BANK.now) result }
+    ensures gen_reads_none { (number count : ℕ) → asked_by (map string_bytes words.now) ≡ Some (gen_form number count) →
+        (script.new ≡ script.old) × (shelf.new ≡ shelf.old) × (result ≡ 6 → ⊥) × (result ≡ 10 → ⊥) }
     ensures checks { (functions text : Text) → asked_by (map string_bytes words.now) ≡ Some (check_form functions) →
         F.text_of shelf.old functions ≡ Some text →
         IsFault result ⊎ EndsAs (CheckComes D.image D.said D.asked desk.old desk.new text) result }
     ensures opens_no_store { (functions : Text) → asked_by (map string_bytes words.now) ≡ Some (check_form functions) →
         (D.image desk.new ≡ D.image desk.old) × (D.disk_faults desk.new ≡ D.disk_faults desk.old) }
-    ensures no_command { asked_by (map string_bytes words.now) ≡ None →
-        (D.image desk.new ≡ D.image desk.old) × (IsFault result
-        ⊎ ((result ≡ 2) × Says D.image D.said D.asked desk.old desk.new (last_line halts.Usage))) }
 
     // However it ends on a store of this program, a crash at any moment leaves a prefix of the machine's history with
     // all that was acknowledged.
@@ -184,16 +102,85 @@ pub fn top<D: Desk, S: Source, F: Shelf>(
         asked_by (map string_bytes words.now) ≡ Some (run_form functions) →
         F.text_of shelf.old functions ≡ Some text → D.image desk.old ≡ Some image → S.left script.old ≡ Some lines →
         IsHistoryOf h image → HasProgram h text →
-        RunGoes D.image D.may_leave D.moment D.reach D.said D.asked desk.old desk.new text h lines }
+        GoesAs (RunGoes D.image D.may_leave D.moment D.reach D.said D.asked desk.old desk.new text h lines) result }
     ensures recover_goes { (functions text image : Text) (turns : ℕ) (h : List Entry) →
         asked_by (map string_bytes words.now) ≡ Some (recover_form functions turns) →
         F.text_of shelf.old functions ≡ Some text → D.image desk.old ≡ Some image →
         IsHistoryOf h image → HasProgram h text →
-        RecoverGoes D.image D.may_leave D.moment D.reach D.said D.asked desk.old desk.new text h turns }
+        GoesAs (RecoverGoes D.image D.may_leave D.moment D.reach D.said D.asked desk.old desk.new text h turns) result }
     ensures gen_goes { (number count : ℕ) (image : Text) (h : List Entry) →
         asked_by (map string_bytes words.now) ≡ Some (gen_form number count) →
         D.image desk.old ≡ Some image → IsHistoryOf h image → HasProgram h BANK.now →
-        GenGoes D.image D.may_leave D.moment D.reach D.said D.asked desk.old desk.new BANK.now h number count }
+        GoesAs (GenGoes D.image D.may_leave D.moment D.reach D.said D.asked desk.old desk.new BANK.now h number count) result }
+
+    // Where the output has failed, all that was to be said before was said, and nothing else.
+    ensures run_say_whole { (functions text image lines : Text) (h : List Entry) →
+        asked_by (map string_bytes words.now) ≡ Some (run_form functions) →
+        F.text_of shelf.old functions ≡ Some text → D.image desk.old ≡ Some image → S.left script.old ≡ Some lines →
+        IsHistoryOf h image → HasProgram h text → result ≡ 5 →
+        FailsToSay (RunGoes D.image D.may_leave D.moment D.reach D.said D.asked desk.old desk.new text h lines) }
+    ensures recover_say_whole { (functions text image : Text) (turns : ℕ) (h : List Entry) →
+        asked_by (map string_bytes words.now) ≡ Some (recover_form functions turns) →
+        F.text_of shelf.old functions ≡ Some text → D.image desk.old ≡ Some image →
+        IsHistoryOf h image → HasProgram h text → result ≡ 5 →
+        FailsToSay (RecoverGoes D.image D.may_leave D.moment D.reach D.said D.asked desk.old desk.new text h turns) }
+    ensures gen_say_whole { (number count : ℕ) (image : Text) (h : List Entry) →
+        asked_by (map string_bytes words.now) ≡ Some (gen_form number count) →
+        D.image desk.old ≡ Some image → IsHistoryOf h image → HasProgram h BANK.now → result ≡ 5 →
+        FailsToSay (GenGoes D.image D.may_leave D.moment D.reach D.said D.asked desk.old desk.new BANK.now h number count) }
+
+    // The words come first, then the function file, then the store, and then the script: what is refused at one of
+    // them leaves all that comes behind it alone.
+    ensures words_first { asked_by (map string_bytes words.now) ≡ None →
+        EndsAtOnce D.image D.may_leave D.moment D.reach D.said D.asked desk.old desk.new halts.Usage result
+        × CallsNeither D.size D.syncs D.disk_faults D.ask_faults desk.old desk.new
+        × (script.new ≡ script.old) × (shelf.new ≡ shelf.old) }
+    ensures shelf_first { (F.faults shelf.new ≡ F.faults shelf.old → ⊥) →
+        (result ≡ 6) × (desk.new ≡ desk.old) × (script.new ≡ script.old) }
+    ensures file_first { (form : Form) (text : Text) → asked_by (map string_bytes words.now) ≡ Some form →
+        functions_text (F.text_of shelf.old) BANK.now form ≡ Some text → (IsFunctionFile text → ⊥) →
+        (halt : Halted) × EndsAtFile text (Some halt)
+        × EndsAtOnce D.image D.may_leave D.moment D.reach D.said D.asked desk.old desk.new halt result
+        × CallsNeither D.size D.syncs D.disk_faults D.ask_faults desk.old desk.new × (script.new ≡ script.old) }
+    ensures refused_first { (form : Form) (text image : Text) → asked_by (map string_bytes words.now) ≡ Some form →
+        functions_text (F.text_of shelf.old) BANK.now form ≡ Some text → OnStore form ⊤ → D.image desk.old ≡ Some image →
+        (IsReady text (Some image) → ⊥) → (script.new ≡ script.old)
+        × GoesAs (EndsAtStore D.image D.said D.asked desk.old desk.new text) result }
+
+    // Each status has its cause, and each cause its status: what stands first in the way is told, and 0 where nothing
+    // does, unless something fails or there is no memory.
+    ensures known { IsStatus result }
+    ensures statuses { (form : Form) (text image lines : Text) → asked_by (map string_bytes words.now) ≡ Some form →
+        functions_text (F.text_of shelf.old) BANK.now form ≡ Some text → D.image desk.old ≡ Some image →
+        S.left script.old ≡ Some lines →
+        IsStatusOf form text image lines (Rose (D.disk_faults desk.old) (D.disk_faults desk.new))
+        (Rose (D.say_faults desk.old) (D.say_faults desk.new))
+        (Rose (S.faults script.old) (S.faults script.new) ⊎ Rose (F.faults shelf.old) (F.faults shelf.new)) result }
+    ensures failures { ((D.disk_faults desk.new ≡ D.disk_faults desk.old → ⊥) → result ≡ 4)
+        × ((D.say_faults desk.new ≡ D.say_faults desk.old → ⊥) → result ≡ 5)
+        × ((S.faults script.new ≡ S.faults script.old → ⊥) → result ≡ 6) }
+    ensures done { result ≡ 0 → (D.disk_faults desk.new ≡ D.disk_faults desk.old)
+        × (D.say_faults desk.new ≡ D.say_faults desk.old) × (S.faults script.new ≡ S.faults script.old)
+        × (F.faults shelf.new ≡ F.faults shelf.old) }
+    ensures ended { (functions : Text) → asked_by (map string_bytes words.now) ≡ Some (run_form functions) →
+        result ≡ 0 → S.ended script.new ≡ true }
+    ensures usage { result ≡ 2 → asked_by (map string_bytes words.now) ≡ None }
+    ensures disk { result ≡ 4 → Rose (D.disk_faults desk.old) (D.disk_faults desk.new) }
+    ensures say { result ≡ 5 → Rose (D.say_faults desk.old) (D.say_faults desk.new) }
+    ensures input { result ≡ 6 →
+        Rose (S.faults script.old) (S.faults script.new) ⊎ Rose (F.faults shelf.old) (F.faults shelf.new) }
+    ensures functions { (form : Form) (text : Text) → asked_by (map string_bytes words.now) ≡ Some form →
+        functions_text (F.text_of shelf.old) BANK.now form ≡ Some text →
+        result ≡ 7 → ((fault : FunctionsFault) × IsRefused text fault) × (IsFunctionFile text → ⊥) }
+    ensures store { (form : Form) (text : Text) → asked_by (map string_bytes words.now) ≡ Some form →
+        functions_text (F.text_of shelf.old) BANK.now form ≡ Some text →
+        result ≡ 8 → (entry : ℕ) × IsNoStore (D.image desk.old) entry }
+    ensures program { (form : Form) (text : Text) → asked_by (map string_bytes words.now) ≡ Some form →
+        functions_text (F.text_of shelf.old) BANK.now form ≡ Some text →
+        result ≡ 9 → IsOthers text (D.image desk.old) }
+    ensures long { (form : Form) (text : Text) → asked_by (map string_bytes words.now) ≡ Some form →
+        functions_text (F.text_of shelf.old) BANK.now form ≡ Some text →
+        result ≡ 10 → (2 ^ 20 < length text) ⊎ ForSome (S.left script.old) (λ lines. 2 ^ 26 < length lines) }
 
     // Where nothing stands in the way and nothing fails, the command is done, or there is no memory.
     ensures completes { (form : Form) (path text : Text) → asked_by (map string_bytes words.now) ≡ Some form →
@@ -206,38 +193,6 @@ pub fn top<D: Desk, S: Source, F: Shelf>(
         IsTaken BANK.now → IsReady BANK.now (D.image desk.old) →
         (Rose (D.disk_faults desk.old) (D.disk_faults desk.new) → ⊥) → (Rose (D.say_faults desk.old) (D.say_faults desk.new) → ⊥) →
         (result ≡ 0) ⊎ (result ≡ 3) }
-
-    // Each status has its cause.
-    ensures done { result ≡ 0 → (D.disk_faults desk.new ≡ D.disk_faults desk.old)
-        × (D.say_faults desk.new ≡ D.say_faults desk.old) × (S.faults script.new ≡ S.faults script.old)
-        × (F.faults shelf.new ≡ F.faults shelf.old) }
-    ensures ended { (functions : Text) → asked_by (map string_bytes words.now) ≡ Some (run_form functions) →
-        result ≡ 0 → S.ended script.new ≡ true }
-    ensures usage { result ≡ 2 → asked_by (map string_bytes words.now) ≡ None }
-    ensures disk { result ≡ 4 → Rose (D.disk_faults desk.old) (D.disk_faults desk.new) }
-    ensures say { result ≡ 5 → Rose (D.say_faults desk.old) (D.say_faults desk.new) }
-    ensures input { result ≡ 6 →
-        Rose (S.faults script.old) (S.faults script.new) ⊎ Rose (F.faults shelf.old) (F.faults shelf.new) }
-    ensures functions { (form : Form) (path text : Text) → asked_by (map string_bytes words.now) ≡ Some form →
-        file_of form ≡ Some path → F.text_of shelf.old path ≡ Some text →
-        result ≡ 7 → (fault : FunctionsFault) × IsRefused text fault }
-    ensures store { (form : Form) (path text : Text) → asked_by (map string_bytes words.now) ≡ Some form →
-        file_of form ≡ Some path → F.text_of shelf.old path ≡ Some text →
-        result ≡ 8 → (entry : ℕ) × IsNoStore (D.image desk.old) entry }
-    ensures program { (form : Form) (path text : Text) → asked_by (map string_bytes words.now) ≡ Some form →
-        file_of form ≡ Some path → F.text_of shelf.old path ≡ Some text →
-        result ≡ 9 → IsOthers text (D.image desk.old) }
-    ensures long { (form : Form) (path text : Text) → asked_by (map string_bytes words.now) ≡ Some form →
-        file_of form ≡ Some path → F.text_of shelf.old path ≡ Some text →
-        result ≡ 10 → (2 ^ 20 < length text) ⊎ ForSome (S.left script.old) (λ lines. 2 ^ 26 < length lines) }
-    ensures gen_functions { (number count : ℕ) → asked_by (map string_bytes words.now) ≡ Some (gen_form number count) →
-        result ≡ 7 → (fault : FunctionsFault) × IsRefused BANK.now fault }
-    ensures gen_store { (number count : ℕ) → asked_by (map string_bytes words.now) ≡ Some (gen_form number count) →
-        result ≡ 8 → (entry : ℕ) × IsNoStore (D.image desk.old) entry }
-    ensures gen_program { (number count : ℕ) → asked_by (map string_bytes words.now) ≡ Some (gen_form number count) →
-        result ≡ 9 → IsOthers BANK.now (D.image desk.old) }
-    ensures gen_reads_none { (number count : ℕ) → asked_by (map string_bytes words.now) ≡ Some (gen_form number count) →
-        (script.new ≡ script.old) × (shelf.new ≡ shelf.old) × (result ≡ 6 → ⊥) × (result ≡ 10 → ⊥) }
 {
     match command(alloc, words, desk, script, shelf) {
         Ok(()) => 0,

@@ -1,6 +1,6 @@
 //! The commands on a store.
 
-ghost use Rattle.std.specs.Prelude.{◌≡◌, ◌⊎◌, ◌≤◌, true, List, [], Err, Option, Some, IfErr, OnOk};
+ghost use Rattle.std.specs.Prelude.{◌≡◌, ◌⊎◌, ◌≤◌, true, List, [], Err, Option, Some, OnOk};
 ghost use Rattle.r3_desk.specs.Causes.{Rose};
 ghost use Rattle.r3_desk.specs.Crash.{NothingPending};
 ghost use Rattle.r3_entry.specs.declared.entry.Entry.{Entry};
@@ -8,9 +8,11 @@ ghost use Rattle.r3_entry.specs.Image.{IsHistoryOf};
 ghost use Rattle.r3_model.specs.Language.{Text};
 ghost use Rattle.r3_recover.specs.Opened.{HasProgram};
 ghost use Rattle.r3_words.specs.Forms.{run as run_form, recover as recover_form};
-ghost use Rattle.r3_top.specs.Causes.{HasCause};
+ghost use Rattle.r3_top.specs.Causes.{HasCause, IsReady};
 ghost use Rattle.r3_top.specs.Statuses.{IsBroken};
-ghost use Rattle.r3_top.specs.Going.{Before, IsCutOff, RecoverGoes, RunGoes, Unbegun};
+ghost use Rattle.r3_top.specs.Refusals.{EndsAtFile, IsFunctionFile};
+ghost use Rattle.r3_top.specs.Closes.{EndsAtStore};
+ghost use Rattle.r3_top.specs.Going.{RecoverGoes, RunGoes};
 ghost use Rattle.r3_top.specs.Ends.{RecoverComes, RunComes, end_of};
 
 use crate::begin::begin;
@@ -40,18 +42,24 @@ pub fn run<D: Desk, S: Source, F: Shelf>(
         (S.left source.old) (S.left source.new) text (end_of result) [] }
     ensures goes { (text image script : Text) (h : List Entry) → F.text_of shelf.old path.now ≡ Some text →
         D.image desk.old ≡ Some image → S.left source.old ≡ Some script → IsHistoryOf h image → HasProgram h text →
-        Before (Unbegun D.image D.may_leave D.moment D.reach D.said D.asked desk.old desk.new h [])
-        (IsCutOff D.image D.may_leave D.moment D.reach D.said D.asked desk.old desk.new text h script [])
-        (RunGoes D.image D.may_leave D.moment D.reach D.said D.asked desk.old desk.new text h script) (end_of result) }
+        RunGoes D.image D.may_leave D.moment D.reach D.said D.asked desk.old desk.new text h script (end_of result) [] }
     ensures causes { (text : Text) → F.text_of shelf.old path.now ≡ Some text →
-        IfErr result (HasCause (run_form path.now) text (D.image desk.old) (S.left source.old)) }
+        HasCause (run_form path.now) text (D.image desk.old) (S.left source.old) (end_of result) }
+
+    // The function file comes first, then the store, and then the script.
+    ensures file_first { (text : Text) → F.text_of shelf.old path.now ≡ Some text → (IsFunctionFile text → ⊥) →
+        (desk.new ≡ desk.old) × (source.new ≡ source.old) × EndsAtFile text (end_of result) }
+    ensures store_first { (text image : Text) → F.text_of shelf.old path.now ≡ Some text → D.image desk.old ≡ Some image →
+        (IsReady text (Some image) → ⊥) → (source.new ≡ source.old)
+        × EndsAtStore D.image D.said D.asked desk.old desk.new text (end_of result) [] }
     ensures ended { OnOk result (S.ended source.new ≡ true) }
     ensures usage { result ≡ Err Halt.Usage → ⊥ }
     ensures disk { result ≡ Err Halt.Disk → Rose (D.disk_faults desk.old) (D.disk_faults desk.new) }
     ensures disk_kept { (result ≡ Err Halt.Disk → ⊥) → D.disk_faults desk.new ≡ D.disk_faults desk.old }
     ensures say { result ≡ Err Halt.Say → Rose (D.say_faults desk.old) (D.say_faults desk.new) }
     ensures say_kept { (result ≡ Err Halt.Say → ⊥) → D.say_faults desk.new ≡ D.say_faults desk.old }
-    ensures files { result ≡ Err Halt.Files → Rose (F.faults shelf.old) (F.faults shelf.new) }
+    ensures files { result ≡ Err Halt.Files → Rose (F.faults shelf.old) (F.faults shelf.new)
+        × (desk.new ≡ desk.old) × (source.new ≡ source.old) }
     ensures files_kept { (result ≡ Err Halt.Files → ⊥) → F.faults shelf.new ≡ F.faults shelf.old }
     ensures script { result ≡ Err Halt.Script → Rose (S.faults source.old) (S.faults source.new) }
     ensures script_kept { (result ≡ Err Halt.Script → ⊥) → S.faults source.new ≡ S.faults source.old }
@@ -89,17 +97,22 @@ pub fn recover<D: Desk, F: Shelf>(
         IsBroken (end_of result) ⊎ RecoverComes D.image D.may_leave D.moment D.reach D.said D.asked desk.old desk.new turns text (end_of result) [] }
     ensures goes { (text image : Text) (h : List Entry) → F.text_of shelf.old path.now ≡ Some text →
         D.image desk.old ≡ Some image → IsHistoryOf h image → HasProgram h text →
-        Before (Unbegun D.image D.may_leave D.moment D.reach D.said D.asked desk.old desk.new h []) ⊥
-        (RecoverGoes D.image D.may_leave D.moment D.reach D.said D.asked desk.old desk.new text h turns) (end_of result) }
+        RecoverGoes D.image D.may_leave D.moment D.reach D.said D.asked desk.old desk.new text h turns (end_of result) [] }
     ensures causes { (text : Text) (left : Option Text) → F.text_of shelf.old path.now ≡ Some text →
-        IfErr result (HasCause (recover_form path.now turns) text (D.image desk.old) left) }
+        HasCause (recover_form path.now turns) text (D.image desk.old) left (end_of result) }
+
+    // The function file comes first, and then the store.
+    ensures file_first { (text : Text) → F.text_of shelf.old path.now ≡ Some text → (IsFunctionFile text → ⊥) →
+        (desk.new ≡ desk.old) × EndsAtFile text (end_of result) }
+    ensures store_first { (text image : Text) → F.text_of shelf.old path.now ≡ Some text → D.image desk.old ≡ Some image →
+        (IsReady text (Some image) → ⊥) → EndsAtStore D.image D.said D.asked desk.old desk.new text (end_of result) [] }
     ensures usage { result ≡ Err Halt.Usage → ⊥ }
     ensures script { result ≡ Err Halt.Script → ⊥ }
     ensures disk { result ≡ Err Halt.Disk → Rose (D.disk_faults desk.old) (D.disk_faults desk.new) }
     ensures disk_kept { (result ≡ Err Halt.Disk → ⊥) → D.disk_faults desk.new ≡ D.disk_faults desk.old }
     ensures say { result ≡ Err Halt.Say → Rose (D.say_faults desk.old) (D.say_faults desk.new) }
     ensures say_kept { (result ≡ Err Halt.Say → ⊥) → D.say_faults desk.new ≡ D.say_faults desk.old }
-    ensures files { result ≡ Err Halt.Files → Rose (F.faults shelf.old) (F.faults shelf.new) }
+    ensures files { result ≡ Err Halt.Files → Rose (F.faults shelf.old) (F.faults shelf.new) × (desk.new ≡ desk.old) }
     ensures files_kept { (result ≡ Err Halt.Files → ⊥) → F.faults shelf.new ≡ F.faults shelf.old }
 {
     one_history();

@@ -1,4 +1,5 @@
-//! Each rule of formed histories, broken and kept by one entry, and the limits of an entry.
+//! Each rule of formed histories, broken and kept by one entry, and the limits of an entry. All are read
+//! twice, with the entries kept and without.
 
 use super::{LOAD, PROGRAM, STARTED, payload_of, put_digits, read_with};
 use crate::LoadFault;
@@ -25,23 +26,21 @@ const PAID: &str = "02 00000002 7331 00000000 01 02 00000003 706179 00 00 00";
 const STEPPED: &str =
     "02 00000002 00000000 00000001 02 00000002 7331 00000000 01 02 00000003 706179 00 00 00";
 
-// The number of entries, where the last is of this payload.
-fn count_with(
+// Why the entries before, and one of this payload behind them, are no formed history; None where they are.
+fn fault_with(
     alloc: Global,
     before: &[&str],
     payload: Vec<u8>,
-) -> Result<Result<u32, LoadFault>, Fail> {
-    match read_with(alloc, before, payload, true)? {
-        Ok(read) => Ok(Ok(u32::try_from(read.entries.len()).unwrap_or(u32::MAX))),
-        Err(fault) => Ok(Err(fault)),
-    }
+    keep: bool,
+) -> Result<Option<LoadFault>, Fail> {
+    Ok(read_with(alloc, before, payload, keep)?.err())
 }
 
 #[test]
 fn each_rule_of_formed_histories_is_checked(rt: HostRuntime) -> Result<(), Fail> {
     let alloc = rt.alloc();
     // what it shows, the entries before, the pieces of one more, whether that is formed
-    let cases: [(&str, &[&str], &[&str], bool); 25] = [
+    let cases: [(&str, &[&str], &[&str], bool); 26] = [
         ("a program first", &[], &[PROGRAM], true),
         ("rows first", &[], &["02 00000000 00000000 00000000"], false),
         ("rows second", &[PROGRAM], &[LOAD], true),
@@ -134,6 +133,17 @@ fn each_rule_of_formed_histories_is_checked(rt: HostRuntime) -> Result<(), Fail>
             true,
         ),
         (
+            "a workflow and its step",
+            &[PROGRAM],
+            &[
+                "02 00000001 00000000 00000002 01 00000002 7331 01 01 01",
+                PAY,
+                "00 00 00000002 00000000 00",
+                PAID,
+            ],
+            true,
+        ),
+        (
             "a step again",
             &[PROGRAM, STARTED, STEPPED],
             &["02 00000003 00000000 00000001", PAID],
@@ -184,17 +194,19 @@ fn each_rule_of_formed_histories_is_checked(rt: HostRuntime) -> Result<(), Fail>
         ("bytes left over", &[PROGRAM], &[LOAD, "00"], false),
     ];
     for (what, before, pieces, formed) in cases {
-        let payload = payload_of(alloc, pieces)?;
         let entry = u32::try_from(before.len())
             .unwrap_or(u32::MAX)
             .saturating_add(1);
-        let want = if formed {
-            Ok(entry)
-        } else {
-            Err(LoadFault::NotFormed { entry })
-        };
-        let got = count_with(alloc, before, payload)?;
-        assert!(rt; got == want, "{what}");
+        for keep in [true, false] {
+            let payload = payload_of(alloc, pieces)?;
+            let got = fault_with(alloc, before, payload, keep)?;
+            let want = if formed {
+                None
+            } else {
+                Some(LoadFault::NotFormed { entry })
+            };
+            assert!(rt; got == want, "{what}, entries kept: {keep}");
+        }
     }
     Ok(())
 }
@@ -227,11 +239,13 @@ fn looks_of(alloc: Global, count: u32) -> Result<Vec<u8>, Fail> {
 #[test]
 fn rows_and_looks_have_their_limits(rt: HostRuntime) -> Result<(), Fail> {
     let alloc = rt.alloc();
-    let fault = Err(LoadFault::NotFormed { entry: 3 });
+    let fault = Some(LoadFault::NotFormed { entry: 3 });
     let before = [PROGRAM, LOAD];
-    assert!(rt; count_with(alloc, &before, rows_of(alloc, 1024)?)? == Ok(3));
-    assert!(rt; count_with(alloc, &before, rows_of(alloc, 1025)?)? == fault);
-    assert!(rt; count_with(alloc, &before, looks_of(alloc, 4096)?)? == Ok(3));
-    assert!(rt; count_with(alloc, &before, looks_of(alloc, 4097)?)? == fault);
+    for keep in [true, false] {
+        assert!(rt; fault_with(alloc, &before, rows_of(alloc, 1024)?, keep)?.is_none());
+        assert!(rt; fault_with(alloc, &before, rows_of(alloc, 1025)?, keep)? == fault);
+        assert!(rt; fault_with(alloc, &before, looks_of(alloc, 4096)?, keep)?.is_none());
+        assert!(rt; fault_with(alloc, &before, looks_of(alloc, 4097)?, keep)? == fault);
+    }
     Ok(())
 }

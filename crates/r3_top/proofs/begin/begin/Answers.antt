@@ -1,39 +1,83 @@
-use Rattle.std.proofs.Common.{rules, ◌≡◌, inr, ◌≤◌, ◌^◌, List, length, string_bytes, sym, ◌∙◌, subst}
+use Rattle.std.proofs.Common.{rules, ◌≡◌, ⊎_elim, inr, ◌≤◌, ◌^◌, List, length, string_bytes, refl, sym, ◌∙◌, subst}
 use Rattle.fn_tree.specs.declared.program.Item.{Item}
 use Rattle.r3_model.specs.Language.{Text}
 use Rattle.r3_recover.specs.Opened.{HasProgram}
 use Rattle.r3_serve.specs.Served.{Loud}
+use Rattle.r3_top.specs.declared.halt.Halt.TheVariants as halts
 use Rattle.r3_top.specs.Functions.{IsAccepted, IsRefused}
-use Rattle.r3_top.specs.Refusals.{IsFile}
+use Rattle.r3_top.specs.Refusals.{IsFile, IsNoStore, IsOthers}
 use Rattle.r3_top.proofs.Saying.{says-same}
-use Rattle.r3_top.proofs.Refusing.{at-fetch, at-accept, nothing-done, no-store, store-is-taken}
-use Rattle.r3_top.proofs.Leaving.{unbegun-first, not-begun}
+use Rattle.r3_top.proofs.Refusing.{at-fetch, at-accept, cause-fetch, cause-accept, is-file, no-fault-in, nothing-done, no-store, store-is-taken}
+use Rattle.r3_top.proofs.Generating.{gen-not-this}
+use Rattle.r3_top.proofs.Leaving.{unbegun-first}
 use Rattle.r3_top.proofs.begin.begin.Goals as goal
+
+-- ---- the file isn't fetched
+
+pub returns-in-Err-clause-causes : goal.returns-in-Err-clause-causes
+returns-in-Err-clause-causes g c = λ text there.
+    cause-fetch text (g.D.Desk.image c.args.desk.now) c.in-Err.halt c.in-Err.ensures.stops (λ l. c.in-Err.ensures.long l text there)
+
+pub returns-in-Err-clause-file_first : goal.returns-in-Err-clause-file_first
+returns-in-Err-clause-file_first g c = λ text there none. (refl, at-fetch text c.in-Err.halt c.in-Err.ensures.stops (λ l. c.in-Err.ensures.long l text there))
 
 pub returns-in-Err-clause-goes : goal.returns-in-Err-clause-goes
 returns-in-Err-clause-goes g c = λ text image h there is history has.
-    nothing-done _ ⊥ _ text c.in-Err.halt (at-fetch text c.in-Err.halt c.in-Err.ensures.stops (λ l. c.in-Err.ensures.long l text there))
+    nothing-done g.D.Desk.image g.D.Desk.may_leave g.D.Desk.moment g.D.Desk.reach g.D.Desk.said g.D.Desk.asked c.args.desk.now c.args.desk.now text h
+    c.in-Err.halt (at-fetch text c.in-Err.halt c.in-Err.ensures.stops (λ l. c.in-Err.ensures.long l text there))
     (unbegun-first g.D.Desk.image g.D.Desk.may_leave g.D.Desk.moment g.D.Desk.reach g.D.Desk.said g.D.Desk.asked c.args.desk.now h image
     (g.met.D.Desk.counts_now c.args.desk.now) (g.met.D.Desk.only_now c.args.desk.now) c.requires is history)
-    (λ u. not-begun g.D.Desk.image g.D.Desk.may_leave g.D.Desk.moment g.D.Desk.reach g.D.Desk.said g.D.Desk.asked c.args.desk.now c.args.desk.now text h u)
+
+-- ---- it is refused
+
+pub returns-in-Err-accept-clause-causes : goal.returns-in-Err-accept-clause-causes
+returns-in-Err-accept-clause-causes g c = λ text there.
+    let same = c.in-Ok.ensures.text text there in
+    let items : c.deref.result.now ≡ text = c.deref.ensures.value ∙ same in
+    let short : length text ≤ 2 ^ 20 = subst (λ (x : Text). length x ≤ 2 ^ 20) same c.in-Ok.ensures.short in
+    cause-accept text (g.D.Desk.image c.args.desk.now) c.in-Err-accept.halt short c.in-Err-accept.ensures.halts
+    (λ fault at. subst (λ (x : Text). IsRefused x fault) items (c.in-Err-accept.ensures.refused fault at))
+    (λ fault at is accepted. c.in-Err-accept.ensures.none fault at is (subst (λ (x : Text). IsAccepted x is) (sym items) accepted))
+
+pub returns-in-Err-accept-clause-file_first : goal.returns-in-Err-accept-clause-file_first
+returns-in-Err-accept-clause-file_first g c = λ text there none.
+    let same = c.in-Ok.ensures.text text there in
+    let items : c.deref.result.now ≡ text = c.deref.ensures.value ∙ same in
+    let short : length text ≤ 2 ^ 20 = subst (λ (x : Text). length x ≤ 2 ^ 20) same c.in-Ok.ensures.short in (
+      refl,
+      at-accept text c.in-Err-accept.halt short c.in-Err-accept.ensures.halts
+          (λ fault at. subst (λ (x : Text). IsRefused x fault) items (c.in-Err-accept.ensures.refused fault at)),
+    )
 
 pub returns-in-Err-accept-clause-goes : goal.returns-in-Err-accept-clause-goes
 returns-in-Err-accept-clause-goes g c = λ text image h there is history has.
     let same = c.in-Ok.ensures.text text there in
     let items : c.deref.result.now ≡ text = c.deref.ensures.value ∙ same in
     let short : length text ≤ 2 ^ 20 = subst (λ (x : Text). length x ≤ 2 ^ 20) same c.in-Ok.ensures.short in
-    nothing-done _ ⊥ _ text c.in-Err-accept.halt
-    (at-accept text c.in-Err-accept.halt short c.in-Err-accept.ensures.halts
+    nothing-done g.D.Desk.image g.D.Desk.may_leave g.D.Desk.moment g.D.Desk.reach g.D.Desk.said g.D.Desk.asked c.args.desk.now c.args.desk.now text h
+    c.in-Err-accept.halt (at-accept text c.in-Err-accept.halt short c.in-Err-accept.ensures.halts
     (λ fault at. subst (λ (x : Text). IsRefused x fault) items (c.in-Err-accept.ensures.refused fault at)))
     (unbegun-first g.D.Desk.image g.D.Desk.may_leave g.D.Desk.moment g.D.Desk.reach g.D.Desk.said g.D.Desk.asked c.args.desk.now h image
     (g.met.D.Desk.counts_now c.args.desk.now) (g.met.D.Desk.only_now c.args.desk.now) c.requires is history)
-    (λ u. not-begun g.D.Desk.image g.D.Desk.may_leave g.D.Desk.moment g.D.Desk.reach g.D.Desk.said g.D.Desk.asked c.args.desk.now c.args.desk.now text h u)
+
+-- ---- it is taken, but there is no memory
 
 pub returns-in_default-clause-goes : goal.returns-in_default-clause-goes
 returns-in_default-clause-goes g c = λ text image h there is history has.
-    not-begun g.D.Desk.image g.D.Desk.may_leave g.D.Desk.moment g.D.Desk.reach g.D.Desk.said g.D.Desk.asked c.args.desk.now c.args.desk.now text h
+    nothing-done g.D.Desk.image g.D.Desk.may_leave g.D.Desk.moment g.D.Desk.reach g.D.Desk.said g.D.Desk.asked c.args.desk.now c.args.desk.now text h
+    halts.Memory tt
     (unbegun-first g.D.Desk.image g.D.Desk.may_leave g.D.Desk.moment g.D.Desk.reach g.D.Desk.said g.D.Desk.asked c.args.desk.now h image
     (g.met.D.Desk.counts_now c.args.desk.now) (g.met.D.Desk.only_now c.args.desk.now) c.requires is history)
+
+pub returns-in_default-clause-file_first : goal.returns-in_default-clause-file_first
+returns-in_default-clause-file_first g c = λ text there none.
+    absurd (none (
+      c.in-Ok-accept.program,
+      is-file text c.in-Ok.text.items c.deref.result.now c.in-Ok-accept.program
+          (c.in-Ok.ensures.text text there) c.in-Ok.ensures.short c.deref.ensures.value c.in-Ok-accept.ensures.accepted,
+    ))
+
+-- ---- the store is opened
 
 pub returns-in-Ok-open-clause-begins : goal.returns-in-Ok-open-clause-begins
 returns-in-Ok-open-clause-begins g c =
@@ -55,16 +99,25 @@ returns-in-Ok-open-clause-begins g c =
       o.3,
     )
 
+pub returns-in-Ok-open-clause-faultless : goal.returns-in-Ok-open-clause-faultless
+returns-in-Ok-open-clause-faultless g c = λ text there. no-fault-in text c.deref.result.now (c.deref.ensures.value ∙ c.in-Ok.ensures.text text there) c.in-Ok-accept.ensures.faultless
+
+pub returns-in-Ok-open-clause-file_first : goal.returns-in-Ok-open-clause-file_first
+returns-in-Ok-open-clause-file_first g c = λ text there none.
+    absurd (none (
+      c.in-Ok-accept.program,
+      is-file text c.in-Ok.text.items c.deref.result.now c.in-Ok-accept.program
+          (c.in-Ok.ensures.text text there) c.in-Ok.ensures.short c.deref.ensures.value c.in-Ok-accept.ensures.accepted,
+    ))
+
+-- ---- it is no store
+
 pub returns-in-Err-Store-clause-refuses : goal.returns-in-Err-Store-clause-refuses
 returns-in-Err-Store-clause-refuses g c = λ text there.
     let string : string_bytes c.in-Ok-from_utf8.text ≡ c.in-Ok.text.items = search rules in
     let bytes : c.as_str.result.now ≡ c.in-Ok.text.items = c.as_str.ensures.value ∙ string in
-    let same = c.in-Ok.ensures.text text there in
-    let items : c.deref.result.now ≡ text = c.deref.ensures.value ∙ same in
-    let file : IsFile text c.in-Ok-accept.program = (
-      subst (λ (x : Text). length x ≤ 2 ^ 20) same c.in-Ok.ensures.short,
-      subst (λ (x : Text). IsAccepted x c.in-Ok-accept.program) items c.in-Ok-accept.ensures.accepted,
-    ) in
+    let file : IsFile text c.in-Ok-accept.program = is-file text c.in-Ok.text.items c.deref.result.now c.in-Ok-accept.program
+    (c.in-Ok.ensures.text text there) c.in-Ok.ensures.short c.deref.ensures.value c.in-Ok-accept.ensures.accepted in
     let kept = c.in-Err-Store.ensures.kept c.in-Err-Store.fault (search rules) in
     inr (
       (
@@ -75,9 +128,57 @@ returns-in-Err-Store-clause-refuses g c = λ text there.
       says-same g.D.Desk.image g.D.Desk.said g.D.Desk.asked c.args.desk.now c.open.new.desk c.open.ensures.said c.open.ensures.asked kept,
     )
 
+pub returns-in-Err-Store-clause-causes : goal.returns-in-Err-Store-clause-causes
+returns-in-Err-Store-clause-causes g c = λ text there.
+    let same = c.in-Ok.ensures.text text there in
+    let file : IsFile text c.in-Ok-accept.program = is-file text c.in-Ok.text.items c.deref.result.now c.in-Ok-accept.program
+    same c.in-Ok.ensures.short c.deref.ensures.value c.in-Ok-accept.ensures.accepted in (
+      ((c.in-Ok-accept.program, file), no-fault-in text c.deref.result.now (c.deref.ensures.value ∙ same) c.in-Ok-accept.ensures.faultless),
+      no-store (g.D.Desk.image c.args.desk.now) c.as_str.result.now c.in-Err-Store.field-0 c.in-Err-Store.fault c.in-Err-Store.field-0-is
+          c.in-Err-Store.ensures.opens c.in-Err-Store.ensures.other c.in-Err-Store.ensures.causes c.entry_of.result c.entry_of.ensures,
+    )
+
+pub returns-in-Err-Store-clause-file_first : goal.returns-in-Err-Store-clause-file_first
+returns-in-Err-Store-clause-file_first g c = λ text there none.
+    absurd (none (
+      c.in-Ok-accept.program,
+      is-file text c.in-Ok.text.items c.deref.result.now c.in-Ok-accept.program
+          (c.in-Ok.ensures.text text there) c.in-Ok.ensures.short c.deref.ensures.value c.in-Ok-accept.ensures.accepted,
+    ))
+
 pub returns-in-Err-Store-clause-goes : goal.returns-in-Err-Store-clause-goes
 returns-in-Err-Store-clause-goes g c = λ text image h there is history has.
     let string : string_bytes c.in-Ok-from_utf8.text ≡ c.in-Ok.text.items = search rules in
     let bytes : c.as_str.result.now ≡ text = c.as_str.ensures.value ∙ string ∙ c.in-Ok.ensures.text text there in
     store-is-taken (g.D.Desk.image c.args.desk.now) c.as_str.result.now image h c.in-Err-Store.field-0 c.in-Err-Store.fault c.in-Err-Store.field-0-is
     c.in-Err-Store.ensures.opens is history (subst (λ (x : Text). HasProgram h x) (sym bytes) has)
+
+-- ---- it is another program's
+
+pub returns-in-Err-Other-clause-causes : goal.returns-in-Err-Other-clause-causes
+returns-in-Err-Other-clause-causes g c = λ text there.
+    let same = c.in-Ok.ensures.text text there in
+    let string : string_bytes c.in-Ok-from_utf8.text ≡ c.in-Ok.text.items = search rules in
+    let bytes : c.as_str.result.now ≡ text = c.as_str.ensures.value ∙ string ∙ same in
+    let file : IsFile text c.in-Ok-accept.program = is-file text c.in-Ok.text.items c.deref.result.now c.in-Ok-accept.program
+    same c.in-Ok.ensures.short c.deref.ensures.value c.in-Ok-accept.ensures.accepted in (
+      ((c.in-Ok-accept.program, file), no-fault-in text c.deref.result.now (c.deref.ensures.value ∙ same) c.in-Ok-accept.ensures.faultless),
+      subst (λ (x : Text). IsOthers x (g.D.Desk.image c.args.desk.now)) bytes
+          (gen-not-this (g.D.Desk.image c.args.desk.now) c.as_str.result.now c.in-Err-Other.field-0 c.in-Err-Other.field-0-is c.in-Err-Other.ensures.opens c.in-Err-Other.ensures.causes),
+    )
+
+pub returns-in-Err-Other-clause-file_first : goal.returns-in-Err-Other-clause-file_first
+returns-in-Err-Other-clause-file_first g c = λ text there none.
+    absurd (none (
+      c.in-Ok-accept.program,
+      is-file text c.in-Ok.text.items c.deref.result.now c.in-Ok-accept.program
+          (c.in-Ok.ensures.text text there) c.in-Ok.ensures.short c.deref.ensures.value c.in-Ok-accept.ensures.accepted,
+    ))
+
+pub returns-in-Err-Disk-clause-file_first : goal.returns-in-Err-Disk-clause-file_first
+returns-in-Err-Disk-clause-file_first g c = λ text there none.
+    absurd (none (
+      c.in-Ok-accept.program,
+      is-file text c.in-Ok.text.items c.deref.result.now c.in-Ok-accept.program
+          (c.in-Ok.ensures.text text there) c.in-Ok.ensures.short c.deref.ensures.value c.in-Ok-accept.ensures.accepted,
+    ))

@@ -1,0 +1,11 @@
+use Rattle.std.proofs.Common.{◌≡◌, ◌++◌, [], List, ℕ, ap, ◌∙◌, sym, subst}
+use Rattle.r3_entry.specs.Formed.{Follows}
+use Rattle.r3_formed.proofs.adding.move_payload.Goals as goal
+
+pub returns-in-Ok-false-default-clause-unformed : goal.returns-in-Ok-false-default-clause-unformed
+returns-in-Ok-false-default-clause-unformed c = λ h same stand _ e is limits follows.
+    let one : c.in-Ok.entry ≡ e = (c.one_spelling.ensures c.in-Ok.entry e [] [] c.in-Ok.ensures.entry.0 limits (ap (λ (x : List ℕ). x ++ []) (sym c.in-Ok.ensures.entry.1 ∙ is))).0 in
+    let fits = (c.in-Ok-false-default.ensures.follows h same stand).1 (subst (Follows h) (sym one) follows) in
+    let test = c.in-Ok-false-default.field-0-0-test in
+    let value = c.in-Ok-false-default.field-0-0-is in
+    absurd cc
