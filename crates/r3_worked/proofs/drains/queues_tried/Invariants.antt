@@ -1,0 +1,7 @@
+use Rattle.r3_model.specs.Functions.{language_of}
+use Rattle.r3_model.specs.Valid.{IsValid}
+use Rattle.r3_plain.specs.Words.{state_of}
+use Rattle.r3_worked.proofs.drains.queues_tried.Given as goal
+
+abbrev pub invariant-items : goal.invariant-items
+invariant-items l = IsValid (language_of l.program) (state_of l.state)

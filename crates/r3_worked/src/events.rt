@@ -1,0 +1,212 @@
+//! Events, from their words.
+
+ghost use Rattle.std.specs.Prelude.{◌≡◌, IfOk, IfSome, List};
+ghost use Rattle.r3_entry.specs.Limits.{IsName, IsRowKey, IsVal};
+ghost use Rattle.r3_model.specs.Fits.{IsFit, IsListed, IsText};
+ghost use Rattle.r3_worked.specs.Later.{FitsLater};
+
+use r3_plain::Event;
+use r3_value::{Memory, Txt, Val};
+use sqlite_items::Items;
+use std::alloc::Global;
+use sys_flow::{Command, Text};
+
+fn text_of(alloc: Global, word: &str) -> Result<Text, Memory>
+    ensures { IfOk result IsText }
+{
+    let copy = String::from_str(alloc, word)?;
+    let text = Text::from_string(copy);
+    // It tells that the text is UTF-8.
+    let _word = text.as_str();
+    Ok(text)
+}
+
+fn name_of(alloc: Global, word: &str) -> Result<Text, Memory>
+    ensures { IfOk result IsName }
+{
+    if word.is_empty() || word.len() > 64 {
+        return Err(Memory);
+    }
+    let copy = String::from_str(alloc, word)?;
+    let text = Text::from_string(copy);
+    let _word = text.as_str();
+    Ok(text)
+}
+
+// A hyphen is no ID.
+fn id_of(alloc: Global, word: &str) -> Result<Option<Text>, Memory>
+    ensures { IfOk result (λ id. IfSome id IsText) }
+{
+    if word == "-" {
+        return Ok(None);
+    }
+    Ok(Some(text_of(alloc, word)?))
+}
+
+// Decimal digits are a number, and any other word is a text.
+fn value_of(alloc: Global, word: &str) -> Result<Val, Memory> {
+    match word.parse::<i64>() {
+        Ok(number) => Ok(Val::Int(number)),
+        Err(_) => match Val::text(alloc, word) {
+            Ok(text) => Ok(text),
+            Err(_) => Err(Memory),
+        },
+    }
+}
+
+fn args_of(alloc: Global, words: &[&str]) -> Result<Val, Memory>
+    ensures { IfOk result IsListed }
+{
+    let mut values = Vec::new(alloc);
+    for word in words {
+        values.push(value_of(alloc, word)?)?;
+    }
+    match Val::list(values) {
+        Ok(args) => {
+            // It tells that the value keeps its limits.
+            let _weight = args.weight();
+            Ok(args)
+        }
+        Err(_) => Err(Memory),
+    }
+}
+
+fn row_of(alloc: Global, key: &str, number: i64) -> Result<(Txt, Val), Memory>
+    ensures { IfOk result (λ r. IsRowKey r.0 × IsVal r.1) }
+{
+    if key.is_empty() || key.len() > 256 {
+        return Err(Memory);
+    }
+    let value = Val::Int(number);
+    let _weight = value.weight();
+    match Txt::new(alloc, key) {
+        Ok(key) => Ok((key, value)),
+        Err(_) => Err(Memory),
+    }
+}
+
+// The accounts a, b and c hold 10, 5 and 0.
+fn load(alloc: Global, table: &str) -> Result<Command, Memory>
+    ensures { IfOk result IsFit }
+{
+    let a = row_of(alloc, "a", 10)?;
+    let b = row_of(alloc, "b", 5)?;
+    let c = row_of(alloc, "c", 0)?;
+    let rows = vec![in alloc; a, b, c]?;
+    Ok(Command::Load {
+        table: name_of(alloc, table)?,
+        rows: Items::from_vec(rows),
+    })
+}
+
+fn fork(alloc: Global, source: &str, step: &str, to: &str) -> Result<Option<Command>, Memory>
+    ensures { IfOk result (λ c. IfSome c IsFit) }
+{
+    let step = step.parse::<u32>().unwrap_or(1001);
+    if step > 1000 {
+        return Ok(None);
+    }
+    let source = text_of(alloc, source)?;
+    let to = id_of(alloc, to)?;
+    Ok(Some(Command::Fork { source, step, to }))
+}
+
+fn start(alloc: Global, id: &str, function: &str, args: &[&str]) -> Result<Command, Memory>
+    ensures { IfOk result IsFit }
+{
+    let id = id_of(alloc, id)?;
+    let function = text_of(alloc, function)?;
+    let args = args_of(alloc, args)?;
+    Ok(Command::Start { id, function, args })
+}
+
+fn enqueue(
+    alloc: Global,
+    id: &str,
+    queue: &str,
+    function: &str,
+    args: &[&str],
+) -> Result<Command, Memory>
+    ensures { IfOk result IsFit }
+{
+    let id = id_of(alloc, id)?;
+    let queue = text_of(alloc, queue)?;
+    let function = text_of(alloc, function)?;
+    let args = args_of(alloc, args)?;
+    Ok(Command::Enqueue {
+        id,
+        queue,
+        function,
+        args,
+    })
+}
+
+fn command_of(alloc: Global, words: &[&str]) -> Result<Option<Command>, Memory>
+    ensures { IfOk result (λ c. IfSome c IsFit) }
+{
+    match words {
+        ["load", table] => Ok(Some(load(alloc, table)?)),
+        ["start", id, function, args @ ..] => Ok(Some(start(alloc, id, function, args)?)),
+        ["enqueue", id, queue, function, args @ ..] => {
+            Ok(Some(enqueue(alloc, id, queue, function, args)?))
+        }
+        ["fork", source, step, to] => fork(alloc, source, step, to),
+        ["cancel", id] => Ok(Some(Command::Cancel {
+            id: text_of(alloc, id)?,
+        })),
+        ["resume", id] => Ok(Some(Command::Resume {
+            id: text_of(alloc, id)?,
+        })),
+        ["recover", id] => Ok(Some(Command::Recover {
+            id: text_of(alloc, id)?,
+        })),
+        _ => Ok(None),
+    }
+}
+
+/// The recovery of a workflow.
+pub fn recovery(alloc: Global, id: &str) -> Result<Event, Memory>
+    ensures { IfOk result FitsLater }
+{
+    let id = text_of(alloc, id)?;
+    Ok(Event::Run(Command::Recover { id }))
+}
+
+/// A turn of a workflow.
+pub fn turn(alloc: Global, id: &str) -> Result<Event, Memory>
+    ensures { IfOk result FitsLater }
+{
+    let id = text_of(alloc, id)?;
+    Ok(Event::Turn { id })
+}
+
+/// A dequeue of a queue.
+pub fn dequeue(alloc: Global, queue: &str) -> Result<Event, Memory>
+    ensures { IfOk result FitsLater }
+{
+    let queue = text_of(alloc, queue)?;
+    Ok(Event::Dequeue { queue })
+}
+
+/// The event that the words are, if they are one. It fits a history that isn't empty.
+pub fn event_of(alloc: Global, words: &[&str]) -> Result<Option<Event>, Memory>
+    ensures { IfOk result (λ e. IfSome e FitsLater) }
+{
+    match words {
+        ["turn", id] => Ok(Some(turn(alloc, id)?)),
+        ["dequeue", queue] => Ok(Some(dequeue(alloc, queue)?)),
+        ["status", id] => Ok(Some(Event::ShowStatus {
+            id: text_of(alloc, id)?,
+        })),
+        ["get", table, key] => {
+            let table = text_of(alloc, table)?;
+            let key = text_of(alloc, key)?;
+            Ok(Some(Event::GetRow { table, key }))
+        }
+        ["nothing"] => Ok(Some(Event::Nothing)),
+        _ => match command_of(alloc, words)? {
+            Some(command) => Ok(Some(Event::Run(command))),
+            None => Ok(None),
+        },
+    }
+}
