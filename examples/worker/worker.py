@@ -88,6 +88,8 @@ def main():
     place = os.path.getsize(calls) if os.path.exists(calls) else 0
     book = Book(store + ".book", Bank())
     signal.signal(signal.SIGTERM, lambda *_: sys.exit(0))
+    if os.path.lexists(answers):
+        os.unlink(answers)
     os.mkfifo(answers)
     try:
         # Open at both ends, so that the program never finds the end of the answers while this runs.

@@ -1,6 +1,7 @@
 //! Runs of function files, told as texts. Expected texts are worked out by hand.
 
 mod bank;
+mod copies;
 mod limits;
 mod maps;
 mod workflows;

@@ -1,4 +1,5 @@
-ghost use Rattle.std.specs.Prelude.{◌≡◌, ◌<◌};
+ghost use Rattle.std.specs.Prelude.{◌≡◌, ◌<◌, [], true, IfOk};
+ghost use Rattle.fn_tree.specs.Soundness.{expr_is_sound};
 
 use crate::operation::{Binary, Unary};
 use crate::{Env, Fail, Halt, eval, evaluate};
@@ -149,7 +150,9 @@ fn items_are_counted_from_0(rt: HostRuntime) -> Result<(), Failed> {
 }
 
 // 1 / 0
-fn fault(alloc: Global) -> Result<Expr, Failed> {
+fn fault(alloc: Global) -> Result<Expr, Failed>
+    ensures { IfOk result (λ e. expr_is_sound [] e [] ≡ true) }
+{
     let one = Boxed::new(alloc, Expr::Int(1))?;
     let zero = Boxed::new(alloc, Expr::Int(0))?;
     Ok(Expr::Div(one, zero))
@@ -257,15 +260,26 @@ fn compare_calls<L: Ledger>(
     Ok(())
 }
 
-fn gives_seven(end: &Result<(Val, u32), Fail>, left: u32) -> bool {
+// The same of a program that the checker has accepted.
+fn ends_so(
+    alloc: Global,
+    end: &Result<(Val, u32), Fail>,
+    want: &str,
+    left: u32,
+) -> Result<bool, Failed> {
     match end {
-        Ok((value, units)) => value.same(&Val::Int(7)) && *units == left,
-        Err(_) => false,
+        Ok((value, units)) => Ok(shown(alloc, value)?.as_str() == want && *units == left),
+        Err(Fail::Word { word, units }) => Ok(word.as_str() == want && *units == left),
+        Err(Fail::Memory) => Ok(false),
     }
 }
 
-// A number in a program without items.
-fn compare_sound<L: Ledger>(rt: &impl Abort, alloc: Global, steps: &mut Steps<L>) {
+// A number and a failure in a program without items.
+fn compare_sound<L: Ledger>(
+    rt: &impl Abort,
+    alloc: Global,
+    steps: &mut Steps<L>,
+) -> Result<(), Failed> {
     let program = Checked::new(Program {
         items: Vec::new(alloc),
     });
@@ -273,7 +287,11 @@ fn compare_sound<L: Ledger>(rt: &impl Abort, alloc: Global, steps: &mut Steps<L>
         names: Vec::new(alloc),
     };
     let end = eval(alloc, &program, &Expr::Int(7), &env, 4, steps);
-    assert!(rt; gives_seven(&end, 4));
+    assert!(rt; ends_so(alloc, &end, "7", 4)?);
+    let fault = fault(alloc)?;
+    let end = eval(alloc, &program, &fault, &env, 4, steps);
+    assert!(rt; ends_so(alloc, &end, "zero", 4)?);
+    Ok(())
 }
 
 fn compare<L: Ledger>(rt: &impl Abort, alloc: Global, blank: Blank) -> Result<(), Failed>
@@ -284,7 +302,7 @@ fn compare<L: Ledger>(rt: &impl Abort, alloc: Global, blank: Blank) -> Result<()
     let mut steps = Steps::<L>::new(blank);
     compare_sides(rt, alloc, &mut steps)?;
     compare_calls(rt, alloc, &mut steps)?;
-    compare_sound(rt, alloc, &mut steps);
+    compare_sound(rt, alloc, &mut steps)?;
     Ok(())
 }
 
