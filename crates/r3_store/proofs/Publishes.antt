@@ -77,6 +77,13 @@ module _ {D : Type 0} (told_size : D → Option ℕ) (told_image : D → Option 
       let f : Some_first (payloads (drop k h)) = some_staged d s.gate _ _ holds.tracks e in
       (payloads (take k h), f.q, f.rest, subst (Tracks told_size told_image may_leave d s.gate (payloads (take k h))) f.is holds.tracks)
 
+  -- where all is settled, nothing is staged
+  pub none_to_publish : (d : D) (s : Store) (h : List Entry) → Holds told_size told_image may_leave d s h (length h) → nat_lt s.gate.published s.gate.end ≡ true → ⊥
+  none_to_publish d s h holds e =
+      let f : Some_first (payloads (drop (length h) h)) = some_staged d s.gate _ _ holds.tracks e in
+      let none : payloads (drop (length h) h) ≡ [] = ap payloads (drop-length h) in
+      let no : f.q ∷ f.rest ≡ [] = sym f.is ∙ none in cc
+
   pub all_settled : (d : D) (s : Store) (h : List Entry) (k : ℕ) → Holds told_size told_image may_leave d s h k → nat_lt s.gate.published s.gate.end ≡ false
       → Holds told_size told_image may_leave d s h (length h)
   all_settled d s h k holds e =

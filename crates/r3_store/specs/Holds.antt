@@ -2,6 +2,7 @@
 use Rattle.std.specs.Prelude.{◌≡◌, ◌⊎◌, ℕ, ◌+◌, ◌≤◌, List, [], ◌∷◌, ◌++◌, length, map, take, drop, Contains, count_by, sum_by, Option}
 use Rattle.std.specs.List.{AllByRecursion}
 use Rattle.r3_gate.specs.Gate.{Tracks}
+use Rattle.r3_snap.specs.Pins.{IsLeast}
 use Rattle.r3_entry.specs.declared.entry.Entry.{Entry}
 use Rattle.r3_entry.specs.Formed.{IsFormed, IsProgramFirst, IsReadAt, IsOfKind, IsNewStep, IsFlowRow, is_user, read_count}
 use Rattle.r3_formed.specs.Past.{StandFor}
@@ -28,6 +29,10 @@ pub record Holds {D : Type 0} (told_size : D → Option ℕ) (told_image : D →
 -- a snapshot that is held, or the length
 abbrev pub IsReadable : Store → ℕ → Type 0
 IsReadable store index = Contains store.pins index ⊎ (index ≡ store.gate.count)
+
+-- the least snapshot that is held, or the length where none is
+abbrev pub IsOldestRead : Store → ℕ → Type 0
+IsOldestRead store index = IsLeast store.pins index ⊎ ((store.pins ≡ []) × (index ≡ store.gate.count))
 
 -- e may follow the entries h, but for a conflict
 pub record MayFollow (h : List Entry) (e : Entry) : Type 0 where

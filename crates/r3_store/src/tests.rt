@@ -6,6 +6,7 @@ ghost use Rattle.r3_desk.specs.Crash.{NothingPending};
 mod commits;
 mod crashes;
 mod opening;
+mod rules;
 mod snapshots;
 
 use crate::{OpenFault, Store};

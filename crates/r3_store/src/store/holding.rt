@@ -3,7 +3,8 @@
 ghost use Rattle.std.specs.Prelude.{◌+◌, ◌<◌, None, ◌≡◌, ◌++◌, ◌∷◌, ◌≤◌, [], List, ℕ, length, Contains, Some, OnOk, OnErr};
 ghost use Rattle.std.specs.List.Sorted.{IsPermutation};
 ghost use Rattle.r3_entry.specs.declared.entry.Entry.{Entry};
-ghost use Rattle.r3_store.specs.Holds.{Stands, IsReadable};
+ghost use Rattle.r3_chain.specs.Versions.{trimmed_all};
+ghost use Rattle.r3_store.specs.Holds.{Stands, IsReadable, IsOldestRead};
 
 use crate::Store;
 use r3_entry::Entry;
@@ -36,7 +37,8 @@ impl Store {
 
     // The least index that is still read.
     fn oldest_read(&self) -> u32
-        ensures { (h : List Entry) → Stands self.now h →
+        ensures is { IsOldestRead self.now result }
+        ensures bounds { (h : List Entry) → Stands self.now h →
             (self.now.oldest ≤ result) × (result ≤ length h)
             × ((s : ℕ) → Contains self.now.pins s → result ≤ s) }
     {
@@ -51,8 +53,15 @@ impl Store {
     /// goes through all keys.
     pub fn vacuum(&mut self)
         ensures keeps { (h : List Entry) → Stands self.old h → Stands self.new h }
+
+        // It keeps just what is read from the least pinned snapshot on, or, where none is pinned, at the
+        // length.
+        ensures oldest { IsOldestRead self.old self.new.oldest }
+        ensures trims { self.new.chains.versions
+            ≡ trimmed_all self.new.oldest self.old.chains.versions }
         ensures pins { self.new.pins ≡ self.old.pins }
         ensures gate { self.new.gate ≡ self.old.gate }
+        ensures texts { self.new.texts ≡ self.old.texts }
     {
         let oldest = self.oldest_read();
         self.chains.trim(oldest);

@@ -1,6 +1,6 @@
 //! Making commits lasting.
 
-ghost use Rattle.std.specs.Prelude.{◌+◌, ◌<◌, take, Err, ◌≡◌, ◌⊎◌, List, ℕ, length, OnOk, OnErr, IsErrOf};
+ghost use Rattle.std.specs.Prelude.{◌+◌, ◌<◌, take, Ok, Err, ◌≡◌, ◌⊎◌, List, ℕ, length, OnOk, OnErr, IsErrOf};
 ghost use Rattle.std.specs.Option.{option_map, ForSome};
 ghost use Rattle.r3_desk.specs.Causes.{Rose};
 ghost use Rattle.r3_desk.specs.Moments.{LeavesImage};
@@ -24,6 +24,11 @@ impl Store {
             Holds D.size D.image D.may_leave desk.old self.old h k →
             OnOk result (Holds D.size D.image D.may_leave desk.new self.new h (length h)) }
         ensures pins { self.new.pins ≡ self.old.pins }
+
+        // Where all is settled already, nothing is written or synced.
+        ensures idle { (h : List Entry) →
+            Holds D.size D.image D.may_leave desk.old self.old h (length h) →
+            (result ≡ Ok tt) × (self.new ≡ self.old) × (desk.new ≡ desk.old) }
 
         // A crash at any moment leaves what was settled, with all commits since or without.
         ensures crash { (h : List Entry) (k : ℕ) →

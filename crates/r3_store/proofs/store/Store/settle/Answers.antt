@@ -1,7 +1,7 @@
 use Rattle.std.proofs.Common.{sym, ◌∙◌, inl, take, drop}
 use Rattle.r3_formed.specs.Load.{payloads}
 use Rattle.r3_store.proofs.Images.{history_of_log}
-use Rattle.r3_store.proofs.Publishes.{all_settled, asks_publish, published, settles_to, stays, settled_image}
+use Rattle.r3_store.proofs.Publishes.{all_settled, asks_publish, none_to_publish, published, settles_to, stays, settled_image}
 use Rattle.r3_store.proofs.store.Store.settle.Goals as goal
 
 pub returns-then-not-has_staged-clause-settled : goal.returns-then-not-has_staged-clause-settled
@@ -34,3 +34,9 @@ returns-in-Ok-clause-reads g c = λ h k holds i told. settled_image i h k holds.
 
 pub returns-in-Err-clause-reads : goal.returns-in-Err-clause-reads
 returns-in-Err-clause-reads g c = λ h k holds i told. settled_image i h k holds.settled_formed holds.stands.formed (c.publish.ensures.reads _ _ holds.tracks i told)
+
+pub returns-in-Ok-clause-idle : goal.returns-in-Ok-clause-idle
+returns-in-Ok-clause-idle g c = λ h holds. absurd (none_to_publish _ _ _ _ _ h holds (sym c.has_staged.ensures ∙ c.if-not-has_staged.false))
+
+pub returns-in-Err-clause-idle : goal.returns-in-Err-clause-idle
+returns-in-Err-clause-idle g c = λ h holds. absurd (none_to_publish _ _ _ _ _ h holds (sym c.has_staged.ensures ∙ c.if-not-has_staged.false))
