@@ -1,5 +1,5 @@
 -- The entry of an event that fits keeps the limits, by its case.
-use Rattle.std.proofs.Common.{◌≡◌, ℕ, zero, suc, ◌+◌, ◌≤◌, ◌<◌, Bool, false, List, [], ◌∷◌, length, take, Option, Some, None, refl, sym, subst, ap, ◌⊎◌, inl, inr, arith}
+use Rattle.std.proofs.Common.{◌≡◌, ℕ, zero, suc, ◌+◌, ◌≤◌, ◌<◌, false, List, [], ◌∷◌, length, take, Option, Some, None, refl, sym, subst, ap, ◌⊎◌, inl, inr, arith}
 use Rattle.std.specs.Prelude.{nat_lt, unwrap_or}
 use Rattle.std.specs.List.{AllByRecursion}
 use Rattle.r3_value.specs.declared.value.Val.{Val}

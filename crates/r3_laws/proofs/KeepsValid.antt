@@ -100,7 +100,7 @@ came-some : (st : State) (ev : Event) (g : Given) → st.history ≢ [] → (cam
 came-some st ev (Enters e r) some = entered-some st e r (full_of st.history e) some
 came-some st ev (Answers r) some = some
 
-first-fits : (answers : List (Option Outcome)) → AllByRecursion (IfThere IsOutcome) answers → IfThere IsOutcome (first_of answers)
+pub first-fits : (answers : List (Option Outcome)) → AllByRecursion (IfThere IsOutcome) answers → IfThere IsOutcome (first_of answers)
 first-fits [] all = tt
 first-fits (a ∷ answers) all = all.0
 
@@ -112,7 +112,7 @@ step-valid P st ev answers lawful limited valid fits heard = record {
   snapshots = stepped-open P st valid.snapshots ev (first_of answers);
 }
 
-empty-formed : IsFormed []
+pub empty-formed : IsFormed []
 empty-formed = record { entries = tt; few = omega arith; small = omega arith; payloads = tt; limits = tt }
 
 pub begins-valid : (P : Language) (text : Text) → IsLawful P → IsLimited P → Fits [] (Append text) → IsValid P (step P empty (Append text) []).state
