@@ -33,6 +33,7 @@ pub mod Places
 pub mod Quiet
 pub mod Ranges
 pub mod Reaches
+pub mod ReachesFormed
 pub mod Refusals
 pub mod Repeats
 pub mod Replays

@@ -1,5 +1,6 @@
 -- What holds of the histories that a program made.
-use Rattle.std.specs.Prelude.{◌≡◌, ◌≢◌, ◌⊎◌, ◌↔◌, ℕ, ◌<◌, IsTrue, List, [], ◌∷◌, ◌++◌, length, map, take, slice_get, Option, Some, ⊤}
+use Rattle.std.specs.Prelude.{◌≡◌, ◌≢◌, ◌⊎◌, ◌↔◌, ℕ, ◌<◌, ◌≤◌, IsTrue, List, [], ◌∷◌, length, take, slice_get, Option, Some, None, ⊤}
+use Rattle.std.specs.List.{AllByRecursion}
 use Rattle.r3_value.specs.declared.value.Outcome.{Outcome}
 use Rattle.r3_rows.specs.declared.rows.Key.TheVariants as keys
 use Rattle.r3_rows.specs.declared.rows.FlowRow.{FlowRow}
@@ -10,20 +11,22 @@ use Rattle.r3_entry.specs.declared.entry.Act.TheVariants as acts
 use Rattle.r3_entry.specs.declared.entry.Entry.{Entry}
 use Rattle.r3_entry.specs.Formed.{IsFormed}
 use Rattle.r3_entry.specs.History.{writes_key}
-use Rattle.fn_tree.specs.declared.flow.FlowEnd.TheVariants.{Unexpected}
+use Rattle.r3_entry.specs.Limits.{IsOutcome, IfThere}
+use Rattle.fn_tree.specs.declared.flow.AskKind.TheVariants as asking
+use Rattle.fn_tree.specs.declared.flow.FlowEnd.TheVariants.{Asks, Unexpected}
 use Rattle.fn_tree.specs.declared.flow.Request.{Request}
 use Rattle.r3_model.specs.Language.{Text, Language}
 use Rattle.r3_model.specs.Event.{Event}
 use Rattle.r3_model.specs.Rows.{flow_at, step_at}
-use Rattle.r3_model.specs.Acts.{step_write, put_write}
-use Rattle.r3_model.specs.Turns.{flow_end, run_on}
+use Rattle.r3_model.specs.Acts.{step_write, step_row, txn_entry}
+use Rattle.r3_model.specs.Turns.{flow_end, run_on, writer_past, conflict_keys}
 use Rattle.r3_model.specs.Run.{Trail, from_state, restarted, next, run}
 use Rattle.r3_model.specs.Made.{IsMade}
 use Rattle.r3_model.specs.Fits.{Fits}
-use Rattle.r3_model.specs.Lawful.{IsLawful}
+use Rattle.r3_model.specs.Lawful.{IsLawful, IsLimited}
 use Rattle.r3_model.specs.Verdict.{replayed}
 
--- ---- every history reached from the empty one is made
+-- ---- every history reached from the empty one is made, and formed
 
 -- every event fits the history that it finds
 abbrev pub AllFit : Language → Trail → List Event → Type 0
@@ -40,6 +43,16 @@ pub data Reached (P : Language) : List Entry → Type 0 where
 abbrev pub MakesWhatItReaches : Type 0
 MakesWhatItReaches = (P : Language) (h : List Entry) → Reached P h → IsMade P h
 
+-- the outside answered within the limits of entries
+abbrev pub HeardWithin : {P : Language} {h : List Entry} → Reached P h → Type 0
+HeardWithin at_first = ⊤
+HeardWithin (after_a_run k evs answers reached fits) = AllByRecursion (IfThere IsOutcome) answers × HeardWithin reached
+
+-- and it is formed: the entries follow each other, within their limits
+abbrev pub FormsWhatItReaches : Type 0
+FormsWhatItReaches = (P : Language) (h : List Entry) → IsLawful P → IsLimited P
+    → (reached : Reached P h) → HeardWithin reached → IsFormed h
+
 -- ---- each step is written once
 
 -- two entries that write one Step key are one
@@ -47,12 +60,21 @@ abbrev pub WritesStepsOnce : List Entry → Type 0
 WritesStepsOnce h = (id : Text) (n i j : ℕ) (e f : Entry) → slice_get h i ≡ Some e → slice_get h j ≡ Some f
     → IsTrue (writes_key e (keys.Step id n)) → IsTrue (writes_key f (keys.Step id n)) → i ≡ j
 
--- the entry commits this step, with the writes of the body that it ran
+-- The workflow was running and asked for this step, a transaction, and the entry is the one that the body gives on
+-- the entry's snapshot: its looks, its writes and the step's row with its outcome. None of what it writes was
+-- written since the snapshot.
 pub record Commits (P : Language) (h : List Entry) (e : Entry) (id : Text) (n : ℕ) (r : StepRow) : Type 0 where
+  pub row : FlowRow
+  pub there : flow_at h (length h) id ≡ Some row
+  pub running : row.status ≡ status.Pending
   pub request : Request
+  pub asks : flow_end P h id row ≡ Asks request
+  pub kind : request.kind ≡ asking.Txn
   pub number : request.n ≡ n
-  pub act : e.act ≡ acts.Txn id n request.args
-  pub writes : e.writes ≡ map put_write (run_on P h id e.snap request).writes ++ step_write id n r ∷ []
+  pub below : e.snap ≤ length h
+  pub isolated : writer_past h e.snap (conflict_keys (run_on P h id e.snap request)) ≡ None
+  pub entry : e ≡ txn_entry h id request e.snap (run_on P h id e.snap request)
+  pub recorded : r ≡ step_row request.name kinds.Txn (run_on P h id e.snap request).outcome
 
 -- the entry copies this step of another workflow
 pub record Copies (h : List Entry) (e : Entry) (id : Text) (n : ℕ) (r : StepRow) : Type 0 where
@@ -62,7 +84,7 @@ pub record Copies (h : List Entry) (e : Entry) (id : Text) (n : ℕ) (r : StepRo
   pub copied : n < below
   pub there : step_at h (length h) source n ≡ Some r
 
--- a step is written once, and one of a transaction with its body's writes, or it is copied by a fork
+-- a step is written once, and one of a transaction by the entry that its body gives, or it is copied by a fork
 abbrev pub CommitsOnce : Type 0
 CommitsOnce = (P : Language) (h : List Entry) → IsLawful P → IsMade P h
     → WritesStepsOnce h

@@ -1,13 +1,15 @@
 //! Laws of made histories.
 
-ghost use Rattle.r3_laws.specs.OfHistories.{CommitsOnce, ExpectsAll, MakesWhatItReaches, RepeatsJustWhatItMade, RepeatsWhatItMade};
+ghost use Rattle.r3_laws.specs.OfHistories.{CommitsOnce, ExpectsAll, FormsWhatItReaches, MakesWhatItReaches, RepeatsJustWhatItMade, RepeatsWhatItMade};
 
-/// Every history that is reached from the empty one, over restarts and crashes, is made.
+/// Every history that is reached from the empty one, over restarts and crashes, is made. It is formed
+/// too, where the functions and the answers of the outside keep the limits of entries.
 pub fn makes_what_it_reaches()
-    ensures { MakesWhatItReaches }
+    ensures made { MakesWhatItReaches }
+    ensures formed { FormsWhatItReaches }
 {}
 
-/// On a made history each step is written once, a transaction's with the writes of its body.
+/// On a made history each step is written once, a transaction's by the entry that its body gives.
 pub fn commits_once()
     ensures { CommitsOnce }
 {}
