@@ -28,14 +28,14 @@ call_unique = pair_unique string IsName spell.val IsArgs name_unique args_unique
 pub called_unique : IsUnique part.called part.IsCalled
 called_unique = pair_unique part.call part.IsCall (spell.option spell.outcome) (IfThere IsOutcome) call_unique (option_unique spell.outcome IsOutcome outcome_unique)
 
-pub queued_unique : IsUnique part.queued part.IsQueued
-queued_unique = pair_unique part.called part.IsCalled (spell.option string) (IfThere IsName) called_unique (option_unique string IsName name_unique)
+pub queue_unique : IsUnique (spell.option string) (IfThere IsName)
+queue_unique = option_unique string IsName name_unique
 
-pub begun_unique : IsUnique part.begun part.IsBegun
-begun_unique = pair_unique part.queued part.IsQueued number (IsBetween 1 1000000) queued_unique (between_unique 1 1000000 (lit< tt))
+pub queued_unique : IsUnique part.queued part.IsQueued
+queued_unique = pair_unique (spell.option string) (IfThere IsName) number (IsBetween 1 1000000) queue_unique (between_unique 1 1000000 (lit< tt))
 
 pub tried_unique : IsUnique part.tried part.IsTried
-tried_unique = pair_unique part.begun part.IsBegun number (IsBetween 0 51) begun_unique (between_unique 0 51 (lit< tt))
+tried_unique = pair_unique part.queued part.IsQueued number (IsBetween 0 51) queued_unique (between_unique 0 51 (lit< tt))
 
 -- ---- a step row
 
