@@ -1,5 +1,5 @@
 -- An entry is missing where its parts are, and its writes where their keys don't rise.
-use Rattle.std.proofs.Common.{◌≡◌, ℕ, ◌+◌, ◌-◌, ◌<◌, ◌≤◌, List, [], ◌∷◌, ◌++◌, length, length-drop, take, drop, slice_index_or, Option, Result, Ok, Err, Bool, true, false, ◌&&◌, ap, sym, subst, ◌∙◌, append_assoc, arith, refl}
+use Rattle.std.proofs.Common.{◌≡◌, ℕ, ◌+◌, ◌-◌, ◌<◌, ◌≤◌, List, [], ◌∷◌, ◌++◌, length, length-drop, take, drop, slice_index_or, Option, Result, Ok, Err, Bool, true, false, ◌&&◌, sym, subst, ◌∙◌, append_assoc, arith, refl}
 use Rattle.std.specs.Prelude.{IsTrue, T}
 use Rattle.std.specs.Ordering.{is_lt}
 use Rattle.std.specs.FinMap.Entries.{put, is_sorted, below_all, is_sorted-put}
@@ -15,7 +15,7 @@ use Rattle.r3_entry.specs.declared.fields.Miss.{Miss}
 use Rattle.r3_entry.specs.declared.fields.Miss.TheVariants as miss
 use Rattle.r3_entry.specs.Bytes as spell
 use Rattle.r3_entry.specs.Limits.{IsEntry, IsWrite, AreSome}
-use Rattle.r3_entry.specs.Parse.{Misses, Parses, Both, IsNoEntry}
+use Rattle.r3_entry.specs.Parse.{Misses, Parses, IsNoEntry}
 use Rattle.r3_entry.proofs.EntryUnique.{entry_unique}
 use Rattle.std.proofs.lemmas.List.{append-nil, drop_more, take_all, take-append-drop}
 use Rattle.r3_entry.specs.Parts as part

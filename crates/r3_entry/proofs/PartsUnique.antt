@@ -1,12 +1,12 @@
 -- No spelling of a part begins another.
-use Rattle.std.proofs.Common.{◌≡◌, ℕ, ◌<◌, ◌^◌, List, [], ◌∷◌, arith, lit<}
+use Rattle.std.proofs.Common.{ℕ, ◌<◌, ◌^◌, arith, lit<}
 use Rattle.r3_bytes.specs.Spelling.{number, string}
 use Rattle.r3_entry.specs.Bytes as spell
-use Rattle.r3_entry.specs.Limits.{IsSized, IsId, IsName, IsRowKey, IsBound, IsNumber, IsArgs, IsOutcome, IfThere, IsSeen, IsAct, IsRead, IsWrite, IsKey, IsCell, AreSome}
-use Rattle.r3_entry.specs.Parse.{both, Both, IsBetween}
+use Rattle.r3_entry.specs.Limits.{IsId, IsName, IsRowKey, IsBound, IsNumber, IsArgs, IsOutcome, IfThere, IsAct, IsRead, IsWrite, AreSome}
+use Rattle.r3_entry.specs.Parse.{IsBetween}
 use Rattle.r3_entry.specs.Parts as part
 use Rattle.r3_entry.proofs.Codes.{IsUnique, number_unique, weaker, pair_unique, option_unique, list_unique}
-use Rattle.r3_entry.proofs.EntryUnique.{sized_unique, args_unique, outcome_unique, key_unique, cell_unique, read_unique, seen_unique, act_unique, write_unique, byte_unique, kind_of, kind_of-code}
+use Rattle.r3_entry.proofs.EntryUnique.{sized_unique, args_unique, outcome_unique, read_unique, act_unique, write_unique, byte_unique, kind_of, kind_of-code}
 
 pub between_unique : (least most : ℕ) → most < 2 ^ 32 → IsUnique number (IsBetween least most)
 between_unique least most fits = weaker number (λ n. n < 2 ^ 32) (IsBetween least most) (λ n h. omega (arith, h.below)) number_unique

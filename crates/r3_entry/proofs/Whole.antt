@@ -1,15 +1,13 @@
 -- What is made of parts is missing where the parts are.
-use Rattle.std.proofs.Common.{◌≡◌, ℕ, ◌<◌, ◌≤◌, List, [], ◌∷◌, ◌++◌, Option, Result, Ok, Err, ap, sym, ◌∙◌, append_assoc, arith}
+use Rattle.std.proofs.Common.{◌≡◌, ℕ, List, ◌∷◌, ◌++◌, ap, sym, ◌∙◌, append_assoc, arith}
 use Rattle.r3_value.specs.declared.value.Outcome.{Outcome}
 use Rattle.r3_bytes.specs.Spelling.{number, string}
 use Rattle.r3_bytes.specs.Field.{BeginsNone}
-use Rattle.r3_rows.specs.declared.rows.Key.{Key}
-use Rattle.r3_rows.specs.declared.rows.Key.TheVariants.{User, Flow, Step}
+use Rattle.r3_rows.specs.declared.rows.Key.TheVariants.{User, Step}
 use Rattle.r3_rows.specs.declared.rows.Status.{Status}
 use Rattle.r3_rows.specs.declared.rows.StepKind.{StepKind}
 use Rattle.r3_rows.specs.declared.rows.FlowRow.{FlowRow}
 use Rattle.r3_rows.specs.declared.rows.StepRow.{StepRow}
-use Rattle.r3_rows.specs.declared.rows.Read.{Read}
 use Rattle.r3_rows.specs.declared.rows.Read.TheVariants.{At, Range}
 use Rattle.r3_entry.specs.declared.fields.Miss.{Miss}
 use Rattle.r3_entry.specs.Bytes as spell
@@ -76,7 +74,7 @@ pub flow_found : (s : Status) (c : part.Called) (p : part.Descended) (bytes rest
     → IsFlow (row_of s c p) × (bytes ≡ spell.flow_row (row_of s c p) ++ after)
 flow_found s c p bytes rest behind after b g cs h ps =
     let whole : rest ≡ tail_of (row_of s c p) ++ after =
-        cs ∙ ap (λ (x : List ℕ). part.called c ++ x) ps ∙ sym (append_assoc (part.called c) (part.descended p) after) ∙ ap (λ (x : List ℕ). x ++ after) (sym (in_two (row_of s c p))) in
+    cs ∙ ap (λ (x : List ℕ). part.called c ++ x) ps ∙ sym (append_assoc (part.called c) (part.descended p) after) ∙ ap (λ (x : List ℕ). x ++ after) (sym (in_two (row_of s c p))) in
     (is_flow s c p g h, b ∙ ap (λ (x : List ℕ). spell.status_code s ∷ x) whole)
 
 flow_none : (s : Status) (rest : List ℕ) → BeginsNone (both part.called part.descended) (Both part.IsCalled part.IsDescended) rest → BeginsNone spell.flow_row IsFlow (spell.status_code s ∷ rest)

@@ -16,7 +16,7 @@ use Rattle.r3_entry.specs.declared.entry.Act.TheVariants as acts
 use Rattle.r3_entry.specs.declared.fields.Miss.{Miss}
 use Rattle.r3_entry.specs.declared.fields.Miss.TheVariants as miss
 use Rattle.r3_entry.specs.Bytes as spell
-use Rattle.r3_entry.specs.Limits.{IsId, IsName, IsRowKey, IsBound, IsNumber, IsArgs, IsOutcome, IfThere, IsSeen, IsAct, IsRead, IsWrite, IsKey, IsCell, AreSome}
+use Rattle.r3_entry.specs.Limits.{IsId, IsName, IsRowKey, IsBound, IsNumber, IsArgs, IsOutcome, IfThere, IsSeen, IsAct, IsRead, IsWrite, AreSome}
 use Rattle.r3_entry.specs.Parse.{both, Both, IsBetween}
 
 abbrev pub IsAny : {X : Type 0} → X → Type 0

@@ -1,6 +1,3 @@
-use Rattle.r3_entry.specs.Bytes as spell
-use Rattle.r3_entry.specs.Limits.{IsWrite, AreSome}
-use Rattle.r3_entry.specs.Parts as part
 use Rattle.r3_entry.proofs.EntryWhole.{ordered_parses}
 use Rattle.r3_entry.proofs.decoder.writes_in.Goals as goal
 
