@@ -4,8 +4,8 @@ ghost use Rattle.std.specs.Prelude.{◌≡◌, ◌<◌, ◌^◌, [], length, IsT
 ghost use Rattle.r3_bytes.specs.Spelling as spell;
 
 use crate::fault::FieldFault;
-use crate::slices::{Miss, outcome_in, text_in, u8_in, u32_in, val_in};
-use r3_value::{Outcome, Val};
+use crate::slices::{Miss, outcome_in, text_in, txt_in, u8_in, u32_in, val_in};
+use r3_value::{Outcome, Txt, Val};
 use std::alloc::Global;
 use std::marker::Model;
 
@@ -97,6 +97,21 @@ impl<'a> Reader<'a> {
                 }
                 Err(_) => Err(FieldFault::Memory),
             },
+            Err(Miss::Absent) => Err(FieldFault::NoField { at: self.at }),
+            Err(Miss::Memory) => Err(FieldFault::Memory),
+        }
+    }
+
+    /// Reads a text of at most 4,091 bytes, which is copied once. `NoField` comes exactly where fewer bytes
+    /// are left than the text has, it has more than 4,091, or they aren't UTF-8.
+    pub fn txt(&mut self, alloc: Global) -> Result<Txt, FieldFault>
+        ensures { Answers spell.string spell.IsTxt (λ t. t) self.old self.new result }
+    {
+        match txt_in(alloc, &self.bytes[self.at as usize..]) {
+            Ok((text, rest)) => {
+                self.at = (self.bytes.len() - rest.len()) as u32;
+                Ok(text)
+            }
             Err(Miss::Absent) => Err(FieldFault::NoField { at: self.at }),
             Err(Miss::Memory) => Err(FieldFault::Memory),
         }

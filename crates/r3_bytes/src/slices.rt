@@ -156,7 +156,10 @@ fn items_in(alloc: Global, depth: u32, count: u32, bytes: &[u8]) -> Result<(Vec<
     requires { depth ≤ 15 }
     ensures { Finds spell.items (spell.AreItems count depth) (λ x. (items_of x.0.items, x.1.now)) bytes.now result }
 {
-    let mut items = Vec::new(alloc);
+    // No more than for a few at once: what the count promises may not be there.
+    let Ok(mut items) = Vec::with_capacity(alloc, count.min(4) as usize) else {
+        return Err(Miss::Memory);
+    };
     let mut rest = bytes;
     for _ in 0..count {
         match val_in(alloc, depth, rest) {

@@ -66,7 +66,7 @@ fn the_fields_of_an_entry_are_written_and_read(rt: HostRuntime) -> Result<(), Fa
     assert_eq!(rt; reader.u32()?, 1);
     assert_eq!(rt; reader.u8()?, 0);
     assert_eq!(rt; reader.text(alloc)?.as_str(), "acct");
-    assert_eq!(rt; reader.text(alloc)?.as_str(), "a");
+    assert_eq!(rt; reader.txt(alloc)?.as_str(), "a");
     assert_eq!(rt; reader.at(), 27);
     assert_eq!(rt; reader.u8()?, 1);
     assert_eq!(rt; reader.u8()?, 0);
@@ -178,6 +178,7 @@ fn a_refused_read_leaves_the_reader(rt: HostRuntime) -> Result<(), Fail> {
     let mut reader = Reader::new(&[7, 0, 0, 0, 9, 1]);
     assert_eq!(rt; reader.u8()?, 7);
     assert!(rt; matches!(reader.text(alloc), Err(FieldFault::NoField { at: 1 })));
+    assert!(rt; matches!(reader.txt(alloc), Err(FieldFault::NoField { at: 1 })));
     assert_eq!(rt; reader.u32()?, 9);
     assert!(rt; matches!(reader.u32(), Err(FieldFault::NoField { at: 5 })));
     assert!(rt; matches!(reader.val(alloc), Err(FieldFault::NoField { at: 5 })));

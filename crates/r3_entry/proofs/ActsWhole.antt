@@ -1,6 +1,6 @@
 -- An act is missing where its fields are.
 use Rattle.std.proofs.Common.{◌≡◌, ◌≢◌, ℕ, ◌<◌, ◌^◌, List, [], ◌∷◌, ◌++◌, get_or, Result, Ok, Err, ap, sym, ◌∙◌, arith}
-use Rattle.r3_bytes.specs.Spelling.{number, string}
+use Rattle.r3_bytes.specs.Spelling.{string}
 use Rattle.r3_bytes.specs.Field.{BeginsNone}
 use Rattle.r3_entry.specs.declared.entry.Act.{Act}
 use Rattle.r3_entry.specs.declared.entry.Act.TheVariants as acts
@@ -8,7 +8,7 @@ use Rattle.r3_entry.specs.declared.fields.Miss.{Miss}
 use Rattle.r3_entry.specs.declared.fields.Miss.TheVariants as miss
 use Rattle.r3_entry.specs.Bytes as spell
 use Rattle.r3_entry.specs.Limits.{IsSized, IsId, IsAnyText, IsAct}
-use Rattle.r3_entry.specs.Parse.{Misses, Parses, Both, IsBetween}
+use Rattle.r3_entry.specs.Parse.{Misses, Parses, Both}
 use Rattle.r3_entry.specs.Parts as part
 use Rattle.r3_entry.proofs.EntryUnique.{act_tag, first_byte}
 use Rattle.r3_entry.proofs.Parts.{misses}

@@ -1,7 +1,6 @@
 -- A cell is missing where its row is.
-use Rattle.std.proofs.Common.{◌≡◌, ℕ, List, [], ◌∷◌, ◌++◌}
+use Rattle.std.proofs.Common.{◌≡◌, ℕ, List, ◌∷◌, ◌++◌}
 use Rattle.r3_bytes.specs.Field.{BeginsNone}
-use Rattle.r3_rows.specs.declared.rows.Cell.{Cell}
 use Rattle.r3_rows.specs.declared.rows.Cell.TheVariants as cells
 use Rattle.r3_entry.specs.declared.fields.Miss.{Miss}
 use Rattle.r3_entry.specs.Bytes as spell

@@ -1,5 +1,5 @@
 -- An entry is missing where its parts are, and its writes where their keys don't rise.
-use Rattle.std.proofs.Common.{◌≡◌, ℕ, List, [], ◌∷◌, ◌++◌, length, Option, Result, Ok, Err, Bool, true, false, ◌&&◌, ap, sym, ◌∙◌, append_assoc, arith, refl}
+use Rattle.std.proofs.Common.{◌≡◌, ℕ, ◌+◌, ◌-◌, ◌<◌, ◌≤◌, List, [], ◌∷◌, ◌++◌, length, length-drop, take, drop, slice_index_or, Option, Result, Ok, Err, Bool, true, false, ◌&&◌, sym, subst, ◌∙◌, append_assoc, arith, refl}
 use Rattle.std.specs.Prelude.{IsTrue, T}
 use Rattle.std.specs.Ordering.{is_lt}
 use Rattle.std.specs.FinMap.Entries.{put, is_sorted, below_all, is_sorted-put}
@@ -15,9 +15,9 @@ use Rattle.r3_entry.specs.declared.fields.Miss.{Miss}
 use Rattle.r3_entry.specs.declared.fields.Miss.TheVariants as miss
 use Rattle.r3_entry.specs.Bytes as spell
 use Rattle.r3_entry.specs.Limits.{IsEntry, IsWrite, AreSome}
-use Rattle.r3_entry.specs.Parse.{Misses, Parses, Both, IsNoEntry}
+use Rattle.r3_entry.specs.Parse.{Misses, Parses, IsNoEntry}
 use Rattle.r3_entry.proofs.EntryUnique.{entry_unique}
-use Rattle.std.proofs.lemmas.List.{append-nil}
+use Rattle.std.proofs.lemmas.List.{append-nil, drop_more, take_all, take-append-drop}
 use Rattle.r3_entry.specs.Parts as part
 use Rattle.r3_entry.proofs.Parts.{misses, second_none}
 use Rattle.r3_entry.proofs.PartsUnique.{looks_unique, pairs_unique}
@@ -56,12 +56,7 @@ first_below k c [] h = tt
 first_below k c (w ∷ ws) h =
     is_less (key_cmp k w.0) (and_first (is_lt (key_cmp k w.0)) (below_all key_cmp k ws) (and_first (below_all key_cmp k (w ∷ ws)) (is_sorted key_cmp (w ∷ ws)) h))
 
--- a key that isn't below the next one
-pub not_ordered : (whole front ws : Pairs) (k : Key) (c : Option Cell) → (front ++ (k, c) ∷ []) ++ ws ≡ whole → ¬ (part.IsBelowFirst k ws) → ¬ (IsTrue (is_sorted key_cmp whole))
-not_ordered whole front ws k c e bad h =
-    bad (first_below k c ws (sorted_back front ((k, c) ∷ ws) (rw (append_assoc front ((k, c) ∷ []) ws) at (rw (← e) at h))))
-
-pub put_front : (k : Key) (c : Option Cell) (ws : Pairs) → part.IsBelowFirst k ws → put key_cmp k c ws ≡ (k, c) ∷ ws
+put_front : (k : Key) (c : Option Cell) (ws : Pairs) → part.IsBelowFirst k ws → put key_cmp k c ws ≡ (k, c) ∷ ws
 put_front k c [] h = refl
 put_front k c (w ∷ ws) h = rw h refl
 
@@ -69,8 +64,33 @@ true_from : (b : Bool) → T b → b ≡ true
 true_from true h = refl
 true_from false h = absurd h
 
-pub sorted_put : (k : Key) (c : Option Cell) (ws : Pairs) → IsTrue (is_sorted key_cmp ws) → IsTrue (is_sorted key_cmp (put key_cmp k c ws))
+sorted_put : (k : Key) (c : Option Cell) (ws : Pairs) → IsTrue (is_sorted key_cmp ws) → IsTrue (is_sorted key_cmp (put key_cmp k c ws))
 sorted_put k c ws h = true_from (is_sorted key_cmp (put key_cmp k c ws)) (is_sorted-put key_cmp key_cmp-total k c ws (rw h tt))
+
+-- the pair before a place stands in front of those from the place on
+before : (pairs : Pairs) (from : ℕ) (w : Key × Option Cell) → 0 < from → from ≤ length pairs → w ≡ slice_index_or pairs (from - 1) w → drop (from - 1) pairs ≡ w ∷ drop from pairs
+before pairs from w some within at =
+    let next : from - 1 + 1 ≡ from = omega arith in
+    let back : slice_index_or pairs (from - 1) w ≡ w = sym at in
+    drop_more pairs (from - 1) w (omega arith) ∙ (λ i. back i ∷ drop (next i) pairs)
+
+all_behind : (pairs : Pairs) (from : ℕ) → from ≤ length pairs → take (length pairs - from) (drop from pairs) ≡ drop from pairs
+all_behind pairs from within = take_all (length pairs - from) (drop from pairs) (omega (arith, length-drop from pairs))
+
+pub rises_before : (pairs : Pairs) (from : ℕ) (w : Key × Option Cell) → 0 < from → from ≤ length pairs → w ≡ slice_index_or pairs (from - 1) w → part.IsBelowFirst (slice_index_or pairs (from - 1) w).0 (take (length pairs - from) (drop from pairs))
+    → IsTrue (is_sorted key_cmp (drop from pairs)) → IsTrue (is_sorted key_cmp (drop (from - 1) pairs))
+rises_before pairs from w some within at below h =
+    let first : part.IsBelowFirst w.0 (drop from pairs) = subst (λ (x : Key × Option Cell). part.IsBelowFirst x.0 (drop from pairs)) (sym at) (rw (all_behind pairs from within) at below) in
+    let whole : put key_cmp w.0 w.1 (drop from pairs) ≡ drop (from - 1) pairs = put_front w.0 w.1 (drop from pairs) first ∙ sym (before pairs from w some within at) in
+    subst (λ (ws : Pairs). IsTrue (is_sorted key_cmp ws)) whole (sorted_put w.0 w.1 (drop from pairs) h)
+
+pub not_rising : (pairs : Pairs) (from : ℕ) (w : Key × Option Cell) → 0 < from → from ≤ length pairs → w ≡ slice_index_or pairs (from - 1) w → ¬ (part.IsBelowFirst (slice_index_or pairs (from - 1) w).0 (take (length pairs - from) (drop from pairs)))
+    → ¬ (IsTrue (is_sorted key_cmp pairs))
+not_rising pairs from w some within at bad h =
+    let parts : take (from - 1) pairs ++ drop (from - 1) pairs ≡ pairs = take-append-drop (from - 1) pairs in
+    let tail = sorted_back (take (from - 1) pairs) (drop (from - 1) pairs) (rw parts h) in
+    let first = first_below w.0 w.1 (drop from pairs) (rw (before pairs from w some within at) at tail) in
+    bad (rw (all_behind pairs from within) (subst (λ (x : Key × Option Cell). part.IsBelowFirst x.0 (drop from pairs)) at first))
 
 -- ---- entries
 

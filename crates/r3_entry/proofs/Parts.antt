@@ -1,8 +1,8 @@
 -- A thing of several fields is missing where one of them is.
-use Rattle.std.proofs.Common.{◌≡◌, ℕ, ◌+◌, ◌<◌, ◌≤◌, ◌^◌, List, [], ◌∷◌, ◌++◌, length, sym, ◌∙◌, append_assoc, arith, lit<, length-append}
+use Rattle.std.proofs.Common.{◌≡◌, ℕ, ◌+◌, ◌<◌, ◌^◌, List, [], ◌∷◌, ◌++◌, length, sym, ◌∙◌, append_assoc, arith, length-append}
 use Rattle.std.specs.List.{flat_map, AllByRecursion}
 use Rattle.std.proofs.lemmas.List.{append-nil}
-use Rattle.r3_bytes.specs.Spelling.{number, string}
+use Rattle.r3_bytes.specs.Spelling.{number}
 use Rattle.r3_bytes.specs.Field.{BeginsNone}
 use Rattle.r3_entry.specs.declared.fields.Miss.{Miss}
 use Rattle.r3_entry.specs.declared.fields.Miss.TheVariants as miss

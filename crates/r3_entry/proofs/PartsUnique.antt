@@ -1,12 +1,12 @@
 -- No spelling of a part begins another.
-use Rattle.std.proofs.Common.{◌≡◌, ℕ, ◌<◌, ◌^◌, List, [], ◌∷◌, arith, lit<}
+use Rattle.std.proofs.Common.{ℕ, ◌<◌, ◌^◌, arith, lit<}
 use Rattle.r3_bytes.specs.Spelling.{number, string}
 use Rattle.r3_entry.specs.Bytes as spell
-use Rattle.r3_entry.specs.Limits.{IsSized, IsId, IsName, IsRowKey, IsBound, IsNumber, IsArgs, IsOutcome, IfThere, IsSeen, IsAct, IsRead, IsWrite, IsKey, IsCell, AreSome}
-use Rattle.r3_entry.specs.Parse.{both, Both, IsBetween}
+use Rattle.r3_entry.specs.Limits.{IsId, IsName, IsRowKey, IsBound, IsNumber, IsArgs, IsOutcome, IfThere, IsAct, IsRead, IsWrite, AreSome}
+use Rattle.r3_entry.specs.Parse.{IsBetween}
 use Rattle.r3_entry.specs.Parts as part
 use Rattle.r3_entry.proofs.Codes.{IsUnique, number_unique, weaker, pair_unique, option_unique, list_unique}
-use Rattle.r3_entry.proofs.EntryUnique.{sized_unique, args_unique, outcome_unique, key_unique, cell_unique, read_unique, seen_unique, act_unique, write_unique, byte_unique, kind_of, kind_of-code}
+use Rattle.r3_entry.proofs.EntryUnique.{sized_unique, args_unique, outcome_unique, read_unique, act_unique, write_unique, byte_unique, kind_of, kind_of-code}
 
 pub between_unique : (least most : ℕ) → most < 2 ^ 32 → IsUnique number (IsBetween least most)
 between_unique least most fits = weaker number (λ n. n < 2 ^ 32) (IsBetween least most) (λ n h. omega (arith, h.below)) number_unique
@@ -28,14 +28,14 @@ call_unique = pair_unique string IsName spell.val IsArgs name_unique args_unique
 pub called_unique : IsUnique part.called part.IsCalled
 called_unique = pair_unique part.call part.IsCall (spell.option spell.outcome) (IfThere IsOutcome) call_unique (option_unique spell.outcome IsOutcome outcome_unique)
 
-pub queued_unique : IsUnique part.queued part.IsQueued
-queued_unique = pair_unique part.called part.IsCalled (spell.option string) (IfThere IsName) called_unique (option_unique string IsName name_unique)
+pub queue_unique : IsUnique (spell.option string) (IfThere IsName)
+queue_unique = option_unique string IsName name_unique
 
-pub begun_unique : IsUnique part.begun part.IsBegun
-begun_unique = pair_unique part.queued part.IsQueued number (IsBetween 1 1000000) queued_unique (between_unique 1 1000000 (lit< tt))
+pub queued_unique : IsUnique part.queued part.IsQueued
+queued_unique = pair_unique (spell.option string) (IfThere IsName) number (IsBetween 1 1000000) queue_unique (between_unique 1 1000000 (lit< tt))
 
 pub tried_unique : IsUnique part.tried part.IsTried
-tried_unique = pair_unique part.begun part.IsBegun number (IsBetween 0 51) begun_unique (between_unique 0 51 (lit< tt))
+tried_unique = pair_unique part.queued part.IsQueued number (IsBetween 0 51) queued_unique (between_unique 0 51 (lit< tt))
 
 -- ---- a step row
 

@@ -1,22 +1,21 @@
 -- What is made of parts is missing where the parts are.
-use Rattle.std.proofs.Common.{◌≡◌, ℕ, ◌<◌, ◌≤◌, List, [], ◌∷◌, ◌++◌, Option, Result, Ok, Err, ap, sym, ◌∙◌, append_assoc, arith}
+use Rattle.std.proofs.Common.{◌≡◌, ℕ, List, ◌∷◌, ◌++◌, ap, sym, ◌∙◌, append_assoc, arith}
 use Rattle.r3_value.specs.declared.value.Outcome.{Outcome}
 use Rattle.r3_bytes.specs.Spelling.{number, string}
 use Rattle.r3_bytes.specs.Field.{BeginsNone}
-use Rattle.r3_rows.specs.declared.rows.Key.{Key}
-use Rattle.r3_rows.specs.declared.rows.Key.TheVariants.{User, Flow, Step}
+use Rattle.r3_rows.specs.declared.rows.Key.TheVariants.{User, Step}
 use Rattle.r3_rows.specs.declared.rows.Status.{Status}
 use Rattle.r3_rows.specs.declared.rows.StepKind.{StepKind}
 use Rattle.r3_rows.specs.declared.rows.FlowRow.{FlowRow}
 use Rattle.r3_rows.specs.declared.rows.StepRow.{StepRow}
-use Rattle.r3_rows.specs.declared.rows.Read.{Read}
 use Rattle.r3_rows.specs.declared.rows.Read.TheVariants.{At, Range}
 use Rattle.r3_entry.specs.declared.fields.Miss.{Miss}
 use Rattle.r3_entry.specs.Bytes as spell
 use Rattle.r3_entry.specs.Limits.{IsKey, IsFlow, IsStep, IsRead}
-use Rattle.r3_entry.specs.Parse.{Misses}
+use Rattle.r3_entry.specs.Parse.{Misses, both, Both}
 use Rattle.r3_entry.specs.Parts as part
-use Rattle.r3_entry.proofs.Parts.{misses}
+use Rattle.r3_entry.proofs.Parts.{misses, second_none}
+use Rattle.r3_entry.proofs.PartsUnique.{called_unique}
 
 -- ---- keys
 
@@ -37,45 +36,67 @@ step_misses bytes m = misses part.step part.IsStepOf bytes spell.key IsKey (2 �
 -- ---- flow rows
 
 abbrev Fields : Type 0
-Fields = part.Tried × Option (List ℕ)
+Fields = part.Called × part.Descended
 
 abbrev fields : FlowRow → Fields
-fields r = ((((((r.function, r.args), r.outcome), r.queue), r.started), r.attempts), r.parent)
+fields r = (((r.function, r.args), r.outcome), (((r.queue, r.started), r.attempts), r.parent))
 
-abbrev pub row_of : Status → Fields → FlowRow
-row_of s p = record { status = s; function = p.0.0.0.0.0.0; args = p.0.0.0.0.0.1; outcome = p.0.0.0.0.1; queue = p.0.0.0.1; started = p.0.0.1; attempts = p.0.1; parent = p.1 }
+abbrev pub row_of : Status → part.Called → part.Descended → FlowRow
+row_of s c p = record { status = s; function = c.0.0; args = c.0.1; outcome = c.1; queue = p.0.0.0; started = p.0.0.1; attempts = p.0.1; parent = p.1 }
 
-are_fields : (r : FlowRow) → IsFlow r → part.IsDescended (fields r)
+are_fields : (r : FlowRow) → IsFlow r → Both part.IsCalled part.IsDescended (fields r)
 are_fields r h =
-    ((((((h.function, h.args), h.outcome), h.queue), record { above = h.started.0; below = h.started.1 }), record { above = omega arith; below = h.attempts }), h.parent)
+    (((h.function, h.args), h.outcome), (((h.queue, record { above = h.started.0; below = h.started.1 }), record { above = omega arith; below = h.attempts }), h.parent))
 
-is_flow : (s : Status) (p : Fields) → part.IsDescended p → IsFlow (row_of s p)
-is_flow s p h = record {
-  function = h.0.0.0.0.0.0;
-  args = h.0.0.0.0.0.1;
-  outcome = h.0.0.0.0.1;
-  queue = h.0.0.0.1;
+is_flow : (s : Status) (c : part.Called) (p : part.Descended) → part.IsCalled c → part.IsDescended p → IsFlow (row_of s c p)
+is_flow s c p g h = record {
+  function = g.0.0;
+  args = g.0.1;
+  outcome = g.1;
+  queue = h.0.0.0;
   started = (h.0.0.1.above, h.0.0.1.below);
   attempts = h.0.1.below;
   parent = h.1;
 }
 
-pub flow_found : (s : Status) (p : Fields) (bytes rest after : List ℕ) → bytes ≡ part.status s ++ rest → part.IsDescended p → rest ≡ part.descended p ++ after → IsFlow (row_of s p) × (bytes ≡ spell.flow_row (row_of s p) ++ after)
-flow_found s p bytes rest after b is r = (is_flow s p is, b ∙ ap (λ (x : List ℕ). spell.status_code s ∷ x) r)
+-- all of a row but its status
+abbrev tail_of : FlowRow → List ℕ
+tail_of r = part.called (fields r).0 ++ spell.option string r.queue ++ number r.started ++ number r.attempts ++ spell.option string r.parent
 
-flow_none : (s : Status) (rest : List ℕ) → BeginsNone part.descended part.IsDescended rest → BeginsNone spell.flow_row IsFlow (spell.status_code s ∷ rest)
+five : (a b c d e : List ℕ) → a ++ b ++ c ++ d ++ e ≡ a ++ (b ++ c ++ d ++ e)
+five a b c d e =
+    ap (λ (x : List ℕ). x ++ d ++ e) (append_assoc a b c) ∙ ap (λ (x : List ℕ). x ++ e) (append_assoc a (b ++ c) d) ∙ append_assoc a (b ++ c ++ d) e
+
+in_two : (r : FlowRow) → tail_of r ≡ both part.called part.descended (fields r)
+in_two r = five (part.called (fields r).0) (spell.option string r.queue) (number r.started) (number r.attempts) (spell.option string r.parent)
+
+pub flow_found : (s : Status) (c : part.Called) (p : part.Descended) (bytes rest behind after : List ℕ) → bytes ≡ part.status s ++ rest → part.IsCalled c → rest ≡ part.called c ++ behind → part.IsDescended p → behind ≡ part.descended p ++ after
+    → IsFlow (row_of s c p) × (bytes ≡ spell.flow_row (row_of s c p) ++ after)
+flow_found s c p bytes rest behind after b g cs h ps =
+    let whole : rest ≡ tail_of (row_of s c p) ++ after =
+    cs ∙ ap (λ (x : List ℕ). part.called c ++ x) ps ∙ sym (append_assoc (part.called c) (part.descended p) after) ∙ ap (λ (x : List ℕ). x ++ after) (sym (in_two (row_of s c p))) in
+    (is_flow s c p g h, b ∙ ap (λ (x : List ℕ). spell.status_code s ∷ x) whole)
+
+flow_none : (s : Status) (rest : List ℕ) → BeginsNone (both part.called part.descended) (Both part.IsCalled part.IsDescended) rest → BeginsNone spell.flow_row IsFlow (spell.status_code s ∷ rest)
 flow_none s rest none row after is e =
-    let tail : rest ≡ part.descended (fields row) ++ after = cc in
-    none (fields row) after (are_fields row is) tail
+    let tail : rest ≡ tail_of row ++ after = cc in
+    none (fields row) after (are_fields row is) (tail ∙ ap (λ (x : List ℕ). x ++ after) (in_two row))
 
-pub flow_misses : (s : Status) (bytes rest : List ℕ) (m : Miss) → bytes ≡ part.status s ++ rest → Misses part.descended part.IsDescended rest m → Misses spell.flow_row IsFlow bytes m
-flow_misses s bytes rest m b h =
-    rw b (misses part.descended part.IsDescended rest spell.flow_row IsFlow (spell.status_code s ∷ rest) m (flow_none s rest) h)
+pub called_misses : (s : Status) (bytes rest : List ℕ) (m : Miss) → bytes ≡ part.status s ++ rest → Misses part.called part.IsCalled rest m → Misses spell.flow_row IsFlow bytes m
+called_misses s bytes rest m b h =
+    rw b (misses part.called part.IsCalled rest spell.flow_row IsFlow (spell.status_code s ∷ rest) m
+    (λ none. flow_none s rest (λ p after is e. none p.0 (part.descended p.1 ++ after) is.0 (e ∙ append_assoc (part.called p.0) (part.descended p.1) after))) h)
+
+pub descended_misses : (s : Status) (c : part.Called) (bytes rest behind : List ℕ) (m : Miss) → bytes ≡ part.status s ++ rest → part.IsCalled c → rest ≡ part.called c ++ behind → Misses part.descended part.IsDescended behind m
+    → Misses spell.flow_row IsFlow bytes m
+descended_misses s c bytes rest behind m b g cs h =
+    rw b (misses part.descended part.IsDescended behind spell.flow_row IsFlow (spell.status_code s ∷ rest) m
+    (λ none. flow_none s rest (second_none part.called part.IsCalled part.descended part.IsDescended called_unique c rest behind g cs none)) h)
 
 pub status_misses : (bytes : List ℕ) (m : Miss) → Misses part.status part.IsAny bytes m → Misses spell.flow_row IsFlow bytes m
 status_misses bytes m =
     misses part.status part.IsAny bytes spell.flow_row IsFlow bytes m
-    (λ none row after is e. none row.status (part.descended (fields row) ++ after) tt e)
+    (λ none row after is e. none row.status (tail_of row ++ after) tt e)
 
 -- ---- step rows
 

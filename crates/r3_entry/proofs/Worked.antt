@@ -1,5 +1,5 @@
 -- A history in which each act stands, computed; and for each rule of formed histories an entry that breaks it.
-use Rattle.std.proofs.Common.{◌≡◌, ℕ, ◌+◌, ◌≤◌, Bool, true, false, List, [], ◌∷◌, ◌++◌, length, get_or, Option, refl, ap, pos, Some, None, lit≤, lit<, arith}
+use Rattle.std.proofs.Common.{◌≡◌, ℕ, ◌+◌, ◌≤◌, true, false, List, [], ◌∷◌, ◌++◌, length, get_or, Option, refl, ap, pos, Some, None, lit≤, lit<, arith}
 use Rattle.std.specs.Prelude.{codes, sum_by, count_by}
 use Rattle.std.specs.Str.{is_utf8, chars}
 use lib.Utf8.{encode}
@@ -13,8 +13,6 @@ use Rattle.r3_rows.specs.declared.rows.Cell.TheVariants.{Row}
 use Rattle.r3_rows.specs.declared.rows.Cell.TheVariants as cells
 use Rattle.r3_rows.specs.declared.rows.Cell.{Cell}
 use Rattle.r3_rows.specs.declared.rows.Key.{Key}
-use Rattle.r3_rows.specs.declared.rows.FlowRow.{FlowRow}
-use Rattle.r3_rows.specs.declared.rows.StepRow.{StepRow}
 use Rattle.r3_rows.specs.declared.rows.Status.{Status}
 use Rattle.r3_rows.specs.declared.rows.Status.TheVariants as status
 use Rattle.r3_rows.specs.declared.rows.StepKind.{StepKind}

@@ -16,13 +16,13 @@ use Rattle.r3_entry.specs.declared.entry.Act.TheVariants as acts
 use Rattle.r3_entry.specs.declared.fields.Miss.{Miss}
 use Rattle.r3_entry.specs.declared.fields.Miss.TheVariants as miss
 use Rattle.r3_entry.specs.Bytes as spell
-use Rattle.r3_entry.specs.Limits.{IsId, IsName, IsRowKey, IsBound, IsNumber, IsArgs, IsOutcome, IfThere, IsSeen, IsAct, IsRead, IsWrite, IsKey, IsCell, AreSome}
+use Rattle.r3_entry.specs.Limits.{IsId, IsName, IsRowKey, IsBound, IsNumber, IsArgs, IsOutcome, IfThere, IsSeen, IsAct, IsRead, IsWrite, AreSome}
 use Rattle.r3_entry.specs.Parse.{both, Both, IsBetween}
 
 abbrev pub IsAny : {X : Type 0} → X → Type 0
 IsAny x = Unit {0}
 
--- ---- a flow row: each part has one field more
+-- ---- a flow row: what it was called with and what it ended with, and then the rest, field after field
 
 abbrev pub call : List ℕ × Val → List ℕ
 call = both string spell.val
@@ -39,35 +39,29 @@ called = both call (spell.option spell.outcome)
 abbrev pub IsCalled : Called → Type 0
 IsCalled = Both IsCall (IfThere IsOutcome)
 
+-- the queue, and the entry that made the row
 abbrev pub Queued : Type 0
-Queued = Called × Option (List ℕ)
+Queued = Option (List ℕ) × ℕ
 
 abbrev pub queued : Queued → List ℕ
-queued = both called (spell.option string)
+queued = both (spell.option string) number
 
 abbrev pub IsQueued : Queued → Type 0
-IsQueued = Both IsCalled (IfThere IsName)
+IsQueued = Both (IfThere IsName) (IsBetween 1 1000000)
 
-abbrev pub begun : Queued × ℕ → List ℕ
-begun = both queued number
+abbrev pub tried : Queued × ℕ → List ℕ
+tried = both queued number
 
-abbrev pub IsBegun : Queued × ℕ → Type 0
-IsBegun = Both IsQueued (IsBetween 1 1000000)
+abbrev pub IsTried : Queued × ℕ → Type 0
+IsTried = Both IsQueued (IsBetween 0 51)
 
-abbrev pub Tried : Type 0
-Tried = (Queued × ℕ) × ℕ
+abbrev pub Descended : Type 0
+Descended = (Queued × ℕ) × Option (List ℕ)
 
-abbrev pub tried : Tried → List ℕ
-tried = both begun number
-
-abbrev pub IsTried : Tried → Type 0
-IsTried = Both IsBegun (IsBetween 0 51)
-
--- all of the row but its status
-abbrev pub descended : Tried × Option (List ℕ) → List ℕ
+abbrev pub descended : Descended → List ℕ
 descended = both tried (spell.option string)
 
-abbrev pub IsDescended : Tried × Option (List ℕ) → Type 0
+abbrev pub IsDescended : Descended → Type 0
 IsDescended = Both IsTried (IfThere IsId)
 
 abbrev pub status : Status → List ℕ

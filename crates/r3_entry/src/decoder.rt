@@ -1,9 +1,11 @@
 //! An entry from its bytes.
 
-ghost use Rattle.std.specs.Prelude.{◌≡◌, ◌<◌, ◌^◌, ◌↔◌, length, IfOk, IsTrue};
+ghost use Rattle.std.specs.Prelude.{◌≡◌, ◌<◌, ◌^◌, ◌↔◌, ◌++◌, length, IfOk, IfErr, IsTrue};
+ghost use Rattle.std.specs.FinMap.Entries.{is_sorted};
+ghost use Rattle.r3_rows.specs.Keys.{key_cmp};
 ghost use Rattle.r3_entry.specs.Bytes as spell;
 ghost use Rattle.r3_entry.specs.Limits.{IsEntry, IsRead, IsWrite, AreSome};
-ghost use Rattle.r3_entry.specs.Parse.{Parses, IsNoEntry};
+ghost use Rattle.r3_entry.specs.Parse.{Parses, Misses, IsNoEntry};
 ghost use Rattle.r3_entry.specs.Parts as part;
 
 use crate::act_fields::act_of;
@@ -28,11 +30,16 @@ fn write_of(alloc: Global, r: &mut Reader<'_>) -> Result<Write, Miss>
     Ok((key, cell))
 }
 
-fn pairs_of(alloc: Global, r: &mut Reader<'_>) -> Result<Items<Write>, Miss>
-    ensures { Parses (spell.list part.write) (AreSome IsWrite) r.old.rest r.new.rest result }
+fn pairs_of(alloc: Global, r: &mut Reader<'_>) -> Result<Vec<Write>, Miss>
+    ensures there { IfOk result (λ pairs. AreSome IsWrite pairs.items
+        × (r.old.rest ≡ spell.list part.write pairs.items ++ r.new.rest)) }
+    ensures absent { IfErr result (Misses (spell.list part.write) (AreSome IsWrite) r.old.rest) }
 {
     let count = number_of(r)?;
-    let mut pairs = Items::new(alloc);
+    // No more than for a few at once: what the count promises may not be there.
+    let Ok(mut pairs) = Vec::with_capacity(alloc, count.min(4) as usize) else {
+        return Err(Miss::Memory);
+    };
     for _ in 0..count {
         match write_of(alloc, r) {
             Err(miss) => return Err(miss),
@@ -54,29 +61,34 @@ fn is_below_first(writes: &[Write], key: &Key) -> bool
     }
 }
 
-// From the last pair to the first, so that each goes to the front.
-fn ordered(alloc: Global, pairs: Items<Write>) -> Result<Writes, Miss>
-    ensures { part.Ordered pairs result }
+// Whether the keys rise strictly, from the last pair to the first.
+fn are_rising(pairs: &[Write]) -> bool
+    ensures { IsTrue result ↔ IsTrue (is_sorted key_cmp pairs.now) }
 {
-    let mut pairs = pairs;
-    let mut writes = Writes::new(alloc);
-    while let Some((key, cell)) = pairs.pop() {
-        if !is_below_first(writes.list(), &key) {
-            return Err(Miss::Absent);
+    let mut from = pairs.len();
+    'pairs: while from > 0 {
+        if !is_below_first(&pairs[from..], &pairs[from - 1].0) {
+            return false;
         }
-        match writes.put(key, cell) {
-            Err(_) => return Err(Miss::Memory),
-            Ok(()) => {}
-        }
+        from -= 1;
     }
-    Ok(writes)
+    true
+}
+
+fn ordered(pairs: Vec<Write>) -> Result<Writes, Miss>
+    ensures { part.Ordered pairs.items result }
+{
+    if !are_rising(&pairs) {
+        return Err(Miss::Absent);
+    }
+    Ok(Writes::from_list(pairs))
 }
 
 fn writes_in(alloc: Global, r: &mut Reader<'_>) -> Result<Writes, Miss>
     ensures { Parses (spell.list part.write) part.AreWrites r.old.rest r.new.rest result }
 {
     match pairs_of(alloc, r) {
-        Ok(pairs) => ordered(alloc, pairs),
+        Ok(pairs) => ordered(pairs),
         Err(miss) => Err(miss),
     }
 }
@@ -85,7 +97,10 @@ fn reads_of(alloc: Global, r: &mut Reader<'_>) -> Result<Items<Read>, Miss>
     ensures { Parses (spell.list spell.read) (AreSome IsRead) r.old.rest r.new.rest result }
 {
     let count = number_of(r)?;
-    let mut reads = Items::new(alloc);
+    let Ok(first) = Vec::with_capacity(alloc, count.min(4) as usize) else {
+        return Err(Miss::Memory);
+    };
+    let mut reads = Items::from_vec(first);
     for _ in 0..count {
         match read_of(alloc, r) {
             Err(miss) => return Err(miss),

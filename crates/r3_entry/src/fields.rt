@@ -9,7 +9,7 @@ ghost use Rattle.r3_entry.specs.Parts as part;
 
 use r3_bytes::{FieldFault, Reader};
 use r3_rows::Key;
-use r3_value::{Outcome, Txt, Val, ValFault};
+use r3_value::{Outcome, Txt, Val};
 use std::alloc::Global;
 
 /// Why there is none.
@@ -59,15 +59,12 @@ pub fn sized_of(alloc: Global, r: &mut Reader<'_>, least: usize, most: usize) ->
     requires { most ≤ 4091 }
     ensures { Parses field.string (IsSized least most) r.old.rest r.new.rest result }
 {
-    let text = r.text(alloc)?;
-    if text.len() < least || text.len() > most {
+    let text = r.txt(alloc)?;
+    let len = text.as_str().len();
+    if len < least || len > most {
         return Err(Miss::Absent);
     }
-    match Txt::new(alloc, text.as_str()) {
-        Ok(text) => Ok(text),
-        Err(ValFault::Memory) => Err(Miss::Memory),
-        Err(_) => Err(Miss::Absent),
-    }
+    Ok(text)
 }
 
 pub fn sized_if_there(

@@ -19,11 +19,9 @@ type Call = (Txt, Val);
 
 type Called = (Call, Option<Outcome>);
 
-type Queued = (Called, Option<Txt>);
+type Queued = (Option<Txt>, u32);
 
-type Begun = (Queued, u32);
-
-type Tried = (Begun, u32);
+type Tried = (Queued, u32);
 
 type Descended = (Tried, Option<Txt>);
 
@@ -72,25 +70,17 @@ fn called_of(alloc: Global, r: &mut Reader<'_>) -> Result<Called, Miss>
 fn queued_of(alloc: Global, r: &mut Reader<'_>) -> Result<Queued, Miss>
     ensures { Parses part.queued part.IsQueued r.old.rest r.new.rest result }
 {
-    let called = called_of(alloc, r)?;
     let queue = sized_if_there(alloc, r, 1, 64)?;
-    Ok((called, queue))
-}
-
-fn begun_of(alloc: Global, r: &mut Reader<'_>) -> Result<Begun, Miss>
-    ensures { Parses part.begun part.IsBegun r.old.rest r.new.rest result }
-{
-    let queued = queued_of(alloc, r)?;
     let started = between_of(r, 1, 1_000_000)?;
-    Ok((queued, started))
+    Ok((queue, started))
 }
 
 fn tried_of(alloc: Global, r: &mut Reader<'_>) -> Result<Tried, Miss>
     ensures { Parses part.tried part.IsTried r.old.rest r.new.rest result }
 {
-    let begun = begun_of(alloc, r)?;
+    let queued = queued_of(alloc, r)?;
     let attempts = between_of(r, 0, 51)?;
-    Ok((begun, attempts))
+    Ok((queued, attempts))
 }
 
 fn descended_of(alloc: Global, r: &mut Reader<'_>) -> Result<Descended, Miss>
@@ -105,17 +95,21 @@ fn flow_row_of(alloc: Global, r: &mut Reader<'_>) -> Result<FlowRow, Miss>
     ensures { Parses spell.flow_row IsFlow r.old.rest r.new.rest result }
 {
     let status = status_of(r)?;
+    let called = called_of(alloc, r)?;
     match descended_of(alloc, r) {
-        Ok(((((((function, args), outcome), queue), started), attempts), parent)) => Ok(FlowRow {
-            status,
-            function,
-            args,
-            outcome,
-            queue,
-            started,
-            attempts,
-            parent,
-        }),
+        Ok((((queue, started), attempts), parent)) => {
+            let ((function, args), outcome) = called;
+            Ok(FlowRow {
+                status,
+                function,
+                args,
+                outcome,
+                queue,
+                started,
+                attempts,
+                parent,
+            })
+        }
         Err(miss) => Err(miss),
     }
 }

@@ -1,4 +1,4 @@
-use Rattle.std.proofs.Common.{◌≡◌, ◌++◌, []}
+use Rattle.std.proofs.Common.{◌≡◌, ◌++◌}
 use Rattle.r3_entry.specs.Bytes as spell
 use Rattle.r3_entry.proofs.EntryWhole.{left_over}
 use Rattle.r3_entry.proofs.decoder.decode.Goals as goal

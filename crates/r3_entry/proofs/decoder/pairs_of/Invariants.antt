@@ -4,4 +4,4 @@ use Rattle.r3_entry.proofs.Parts.{HasRead}
 use Rattle.r3_entry.proofs.decoder.pairs_of.Given as goal
 
 abbrev pub invariant-loop : goal.invariant-loop
-invariant-loop l = HasRead part.write IsWrite l.counter l.pairs l.initial.r.rest l.r.rest
+invariant-loop l = HasRead part.write IsWrite l.counter l.pairs.items l.initial.r.rest l.r.rest
