@@ -31,7 +31,7 @@ Suits h (Run command) = (h ≢ []) × HasRows (Run command)
 Suits h ev = ⊤
 
 run-suits : (h : List Entry) (c : Command) → Fits h (Run c) → Suits h (Run c)
-run-suits h (Load table rows) fits = (fits.0, (fits.1.1, fits.1.2))
+run-suits h (Load table rows) fits = (fits.0, (fits.1.0, fits.1.1))
 run-suits h (Start id function args) fits = (fits.0, tt)
 run-suits h (Enqueue id queue function args) fits = (fits.0, tt)
 run-suits h (Cancel id) fits = (fits.0, tt)

@@ -77,6 +77,7 @@ once-lawful = record {
 
 pub once-limited : IsLimited once
 once-limited = record {
+  table_names = λ table is. absurd (let z : false ≡ true = is in cc);
   names = λ f n is. absurd (let z : None ≡ Some n = is in cc);
   queue_names = tt;
   ends = λ function args answers args_fit all. ends function args answers args_fit all;

@@ -141,14 +141,14 @@ pub no-flows : (table : Text) (rows : List (Text × Val)) → flows_in (map (row
 no-flows table [] = refl
 no-flows table (r ∷ rs) = no-flows table rs
 
-pub load-fitted : (h : List Entry) (table : Text) (rows : List (Text × Val)) → IsFit (Load table rows) → IsFitted (plain h acts.Load (in_order (map (row_write table) rows)))
-load-fitted h table rows fit =
-    let are : AreRows table (length rows) (in_order (map (row_write table) rows)) = in_order-rows table rows fit.1 in
+pub load-fitted : (h : List Entry) (table : Text) (rows : List (Text × Val)) → IsName table → IsFit (Load table rows) → IsFitted (plain h acts.Load (in_order (map (row_write table) rows)))
+load-fitted h table rows name fit =
+    let are : AreRows table (length rows) (in_order (map (row_write table) rows)) = in_order-rows table rows fit.0 in
     record {
       act = tt;
       reads = tt;
-      writes = puts-fit [] (map (row_write table) rows) tt (rows-fit table rows fit.0 fit.3);
-      few_writes = omega (arith, ap (λ (ws : Writes). length ws) are.are, length-map are.rows (row_write table), are.few, fit.2);
+      writes = puts-fit [] (map (row_write table) rows) tt (rows-fit table rows name fit.2);
+      few_writes = omega (arith, ap (λ (ws : Writes). length ws) are.are, length-map are.rows (row_write table), are.few, fit.1);
       few_flows = omega (arith, ap (λ (ws : Writes). flows_in ws) are.are, no-flows table are.rows);
     }
 

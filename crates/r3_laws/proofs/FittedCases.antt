@@ -1,5 +1,5 @@
 -- The entry of an event that fits keeps the limits, by its case.
-use Rattle.std.proofs.Common.{◌≡◌, ℕ, zero, suc, ◌+◌, ◌≤◌, ◌<◌, List, [], ◌∷◌, length, take, Option, Some, None, refl, sym, subst, ap, ◌⊎◌, inl, inr, arith}
+use Rattle.std.proofs.Common.{◌≡◌, ℕ, zero, suc, ◌+◌, ◌≤◌, ◌<◌, Bool, false, List, [], ◌∷◌, length, take, Option, Some, None, refl, sym, subst, ap, ◌⊎◌, inl, inr, arith}
 use Rattle.std.specs.Prelude.{nat_lt, unwrap_or}
 use Rattle.std.specs.List.{AllByRecursion}
 use Rattle.r3_value.specs.declared.value.Val.{Val}
@@ -169,43 +169,47 @@ module _ (P : Language) (lawful : IsLawful P) (limited : IsLimited P) (h : List 
   fit : (ev ev0 : Event) → ev ≡ ev0 → Fits h ev → Fits h ev0
   fit ev ev0 is fits = subst (Fits h) is fits
 
-  pub case-fitted : {answer : Option Outcome} (ev : Event) (snap : Option ℕ) → Fits h ev → ((id : Text) (s : ℕ) → ev ≡ Turn id → snap ≡ Some s → IsOpen P h id s) → IfThere IsOutcome answer
+  below-steps : (n below : ℕ) → n ≤ 1000 → nat_lt n below ≡ false → below ≤ 1000
+  below-steps n below few is = grind arith
+
+  pub case-fitted : {answer : Option Outcome} (ev : Event) (snap : Option ℕ) → Fits h ev → ((table : Text) (rows : List (Text × Val)) → ev ≡ Run (Load table rows) → IsName table) → ((id : Text) (s : ℕ) → ev ≡ Turn id → snap ≡ Some s → IsOpen P h id s) → IfThere IsOutcome answer
       → ((id : Text) (row : FlowRow) (q : Request) → flow_end P h id row ≡ Asks q → q.n < 1000) → Case P h ev snap answer e → IsFitted e
-  case-fitted ev snap fits begun heard few (programs text ev_is is) =
+  case-fitted ev snap fits named begun heard few (programs text ev_is is) =
       moved _ is (record { act = (fit ev (Append text) ev_is fits).1; reads = tt; writes = tt; few_writes = omega arith; few_flows = omega arith })
-  case-fitted ev snap fits begun heard few (loads table rows ev_is is) = moved _ is (load-fitted h table rows (fit ev (Run (Load table rows)) ev_is fits).1)
-  case-fitted ev snap fits begun heard few (starts given function args ev_is gone tests is) =
+  case-fitted ev snap fits named begun heard few (loads table rows ev_is is) = moved _ is (load-fitted h table rows (named table rows ev_is) (fit ev (Run (Load table rows)) ev_is fits).1)
+  case-fitted ev snap fits named begun heard few (starts given function args ev_is gone tests is) =
       let f = (fit ev (Run (Start given function args)) ev_is fits).1 in
       let id_is : IsId (id_or_made h given) = new-id h given f.0 tests.0 in
       let a = arity-fits P limited function args (P.arity function) refl tests.1.0 tests.1.1.0 f.1 in
       moved _ is (one-row (acts.Start (id_or_made h given)) (id_or_made h given) _ id_is id_is (new-row h room status.Pending function args None None a.0 a.1 tt tt))
-  case-fitted ev snap fits begun heard few (enqueues given queue function args ev_is gone tests is) =
+  case-fitted ev snap fits named begun heard few (enqueues given queue function args ev_is gone tests is) =
       let f = (fit ev (Run (Enqueue given queue function args)) ev_is fits).1 in
       let id_is : IsId (id_or_made h given) = new-id h given f.0 tests.0 in
       let queued : IsName queue = queue-fits queue P.queues limited.queue_names (from-not _ tests.1.0) in
       let a = arity-fits P limited function args (P.arity function) refl tests.1.1.0 tests.1.1.1.0 f.1 in
       moved _ is (one-row (acts.Enqueue (id_or_made h given)) (id_or_made h given) _ id_is id_is (new-row h room status.Enqueued function args (Some queue) None a.0 a.1 queued tt))
-  case-fitted ev snap fits begun heard few (dequeues queue f ev_is there waits is) =
+  case-fitted ev snap fits named begun heard few (dequeues queue f ev_is there waits is) =
       let r = row-is f.id f.row there in
       moved _ is (one-row (acts.Dequeue f.id) f.id _ r.0 r.0 (status-row f.row status.Pending r.1))
-  case-fitted ev snap fits begun heard few (turns id row ev_is there runs (finishes o ends is)) =
+  case-fitted ev snap fits named begun heard few (turns id row ev_is there runs (finishes o ends is)) =
       let r = row-is id row there in
       moved _ is (one-row (acts.Finish id) id _ r.0 r.0 (moved-row row (status_of o) (Some o) row.queue row.attempts r.1 (done-fits h formed P limited id row o there ends) r.1.queue r.1.attempts))
-  case-fitted ev snap fits begun heard few (turns id row ev_is there runs (goes_on q ends c)) = ask-fitted id row q (λ s snap_is. begun id s ev_is snap_is) heard there ends (few id row q ends) c
-  case-fitted ev snap fits begun heard few (cancels id row ev_is there may is) =
+  case-fitted ev snap fits named begun heard few (turns id row ev_is there runs (goes_on q ends c)) = ask-fitted id row q (λ s snap_is. begun id s ev_is snap_is) heard there ends (few id row q ends) c
+  case-fitted ev snap fits named begun heard few (cancels id row ev_is there may is) =
       let r = row-is id row there in
       moved _ is (one-row (acts.Cancel id) id _ r.0 r.0 (status-row row status.Cancelled r.1))
-  case-fitted ev snap fits begun heard few (resumes id row ev_is there may is) =
+  case-fitted ev snap fits named begun heard few (resumes id row ev_is there may is) =
       let r = row-is id row there in
       moved _ is (one-row (acts.Resume id) id _ r.0 r.0 (moved-row row status.Pending row.outcome None 0 r.1 r.1.outcome tt (omega arith)))
-  case-fitted ev snap fits begun heard few (forks given source below row ev_is gone there tests is) =
+  case-fitted ev snap fits named begun heard few (forks given source below row ev_is gone there tests is) =
       let f = (fit ev (Run (Fork source below given)) ev_is fits).1 in
-      let id_is : IsId (id_or_made h given) = new-id h given f.1 tests.0 in
+      let id_is : IsId (id_or_made h given) = new-id h given f tests.0 in
       let r = row-is source row there in
       let steps : List StepRow = steps_at h (length h) source in
-      moved _ is (fork-fitted h (id_or_made h given) source below _ (take below steps) id_is r.0 f.0 (omega (arith, take-few below steps, steps-few h source 1000 0))
+      let few_below : below ≤ 1000 = below-steps (length steps) below (steps-few h source 1000 0) tests.1.0 in
+      moved _ is (fork-fitted h (id_or_made h given) source below _ (take below steps) id_is r.0 few_below (omega (arith, take-few below steps, steps-few h source 1000 0))
       (new-row h room status.Pending row.function row.args None None r.1.function r.1.args tt tt) (take-steps below steps (steps-fit h formed source)))
-  case-fitted ev snap fits begun heard few (recovers id row ev_is there runs is) =
+  case-fitted ev snap fits named begun heard few (recovers id row ev_is there runs is) =
       let r = row-is id row there in
       let next : Status × ℕ = recovered row.status row.attempts in
       moved _ is (one-row (acts.Recover id) id _ r.0 r.0 (moved-row row next.0 row.outcome row.queue next.1 r.1 r.1.outcome r.1.queue (attempts-few (nat_lt row.attempts 50) row.status row.attempts refl)))

@@ -1,17 +1,21 @@
 -- Every event that fits keeps a state valid.
 use Rattle.std.proofs.Common.{◌≡◌, ◌≢◌, ℕ, ◌+◌, ◌≤◌, ◌^◌, Bool, true, false, List, [], ◌∷◌, length, Option, Some, None, refl, sym, subst, arith}
-use Rattle.std.specs.Prelude.{if◌then◌else◌, nat_le, nat_lt}
+use Rattle.std.specs.Prelude.{if◌then◌else◌, nat_le, nat_lt, not}
 use Rattle.std.specs.List.{AllByRecursion}
+use Rattle.r3_value.specs.declared.value.Val.{Val}
 use Rattle.r3_value.specs.declared.value.Outcome.{Outcome}
 use Rattle.r3_entry.specs.declared.entry.Entry.{Entry}
 use Rattle.r3_entry.specs.Bytes.{entry, size}
 use Rattle.r3_entry.specs.Formed.{IsFormed, Follows}
-use Rattle.r3_entry.specs.Limits.{IsEntry, IsOutcome, IfThere}
+use Rattle.r3_entry.specs.Limits.{IsEntry, IsName, IsOutcome, IfThere}
 use Rattle.r3_entry.proofs.Prefixes.{formed-push}
 use Rattle.r3_model.specs.Language.{Text, Language}
-use Rattle.r3_model.specs.Event.{Event, Append, Reply, Limit, Entries, Bytes}
+use Rattle.sys_flow.specs.declared.command.Command.TheVariants.{Load}
+use Rattle.sys_flow.specs.declared.command.Refusal.TheVariants.{UnknownTable}
+use Rattle.r3_model.specs.Event.{Event, Append, Run, Reply, Limit, Entries, Bytes}
 use Rattle.r3_model.specs.Event as reply
-use Rattle.r3_model.specs.Acts.{program_entry}
+use Rattle.r3_model.specs.Acts.{program_entry, load_entry}
+use Rattle.r3_model.specs.Commands.{loaded}
 use Rattle.r3_model.specs.Given.{Given, Enters, Answers}
 use Rattle.r3_model.specs.Machine.{State, step, stepped, given, came, entered, full_of, snap_of, first_of}
 use Rattle.r3_model.specs.Run.{empty}
@@ -22,23 +26,32 @@ use Rattle.r3_laws.proofs.Agreeing.{begun_is}
 use Rattle.r3_laws.proofs.Cases.{Case}
 use Rattle.r3_laws.proofs.CasesOf.{case-of}
 use Rattle.r3_laws.proofs.Converse.{program-room, some-more}
-use Rattle.r3_laws.proofs.Fitted.{IsFitted}
+use Rattle.r3_laws.proofs.Fitted.{IsFitted, from-not}
 use Rattle.r3_laws.proofs.FittedCases.{case-fitted}
 use Rattle.r3_laws.proofs.Fitting.{few_steps}
 use Rattle.r3_laws.proofs.Follow.{entry-follows, entry-small}
 use Rattle.r3_laws.proofs.KeepsOpen.{stepped-open}
 use Rattle.r3_laws.proofs.Reaches.{restarted-open}
+use Rattle.r3_laws.proofs.Refusals.{passed}
 use Rattle.r3_laws.proofs.Rising.{IsSmall}
 use Rattle.r3_laws.proofs.Sizes.{payload-few, reads-number}
 
 module _ (P : Language) (lawful : IsLawful P) (limited : IsLimited P) where
+  -- a load is given only to a table that is declared
+  loaded-named : (h : List Entry) (ev : Event) (snap : Option ℕ) (answer : Option Outcome) (e : Entry) (r : Reply) → given P h ev snap answer ≡ Enters e r
+      → (table : Text) (rows : List (Text × Val)) → ev ≡ Run (Load table rows) → IsName table
+  loaded-named h ev snap answer e r is table rows ev_is =
+      let same : loaded P h table rows ≡ Enters e r = subst (λ (x : Event). given P h x snap answer ≡ Enters e r) ev_is is in
+      let t = passed ((not (P.has_table table), UnknownTable) ∷ []) (Enters (load_entry h table rows) (reply.Entry (length h + 1))) e r same in
+      limited.table_names table (from-not (P.has_table table) t.0.0)
+
   -- the entry is within the limits, and so is its payload
   pub enters-limited : (st : State) (ev : Event) (answer : Option Outcome) (e : Entry) (r : Reply) → IsFormed st.history → AreOpen P st → Fits st.history ev → IfThere IsOutcome answer → length st.history + 1 ≤ 1000000
       → given P st.history ev (snap_of st.begun ev) answer ≡ Enters e r → IsEntry e × (length (entry e) ≤ 2 ^ 23)
   enters-limited st ev answer e r formed all fits heard room is =
       let h : List Entry = st.history in
       let c : Case P h ev (snap_of st.begun ev) answer e = case-of P h (snap_of st.begun ev) answer e r ev is in
-      let f : IsFitted e = case-fitted P lawful limited h formed room e ev (snap_of st.begun ev) fits (begun_is P st all ev) heard (few_steps P lawful limited h formed) c in
+      let f : IsFitted e = case-fitted P lawful limited h formed room e ev (snap_of st.begun ev) fits (loaded-named h ev (snap_of st.begun ev) answer e r is) (begun_is P st all ev) heard (few_steps P lawful limited h formed) c in
       let small : IsSmall e = entry-small P lawful st ev answer e r fits is in
       let follows : Follows h e = entry-follows P st ev answer e r lawful formed all fits is in
       let limits : IsEntry e = record {

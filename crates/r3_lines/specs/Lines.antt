@@ -30,15 +30,10 @@ IsRow r = IsRowKey r.0 × IsVal r.1
 abbrev pub AreRows : List (Text × Val) → Type 0
 AreRows rows = (1 ≤ length rows) × (length rows ≤ 1024) × All IsRow rows
 
--- a command as a line has it: it fits, but that a load may name any table; none is a recovery
+-- a command as a line has it: one that fits, and no recovery
 abbrev pub IsOfLine : Command → Type 0
-IsOfLine (commands.Load table rows) = AreRows rows
-IsOfLine (commands.Start id function args) = IsFit (commands.Start id function args)
-IsOfLine (commands.Enqueue id queue function args) = IsFit (commands.Enqueue id queue function args)
-IsOfLine (commands.Cancel id) = ⊤
-IsOfLine (commands.Resume id) = ⊤
-IsOfLine (commands.Fork source step to) = IsFit (commands.Fork source step to)
 IsOfLine (commands.Recover id) = ⊥
+IsOfLine command = IsFit command
 
 -- the limits that a line keeps
 abbrev pub IsKept : Line → Type 0

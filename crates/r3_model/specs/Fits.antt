@@ -1,11 +1,11 @@
 -- Which events fit a history: a program comes first and never again, and commands keep the limits of
--- their lines.
+-- their lines. A command may name any table, queue, function or step: the machine refuses what isn't there.
 use Rattle.std.specs.Prelude.{◌≡◌, ◌≢◌, ◌≤◌, IsTrue, List, [], length, All, ⊤}
 use Rattle.std.specs.Str.{is_utf8}
 use Rattle.r3_value.specs.declared.value.Val.{Val}
 use Rattle.r3_value.specs.declared.value.Val.TheVariants as vals
 use Rattle.r3_entry.specs.declared.entry.Entry.{Entry}
-use Rattle.r3_entry.specs.Limits.{IsName, IsRowKey, IsVal, IsSized, IfThere}
+use Rattle.r3_entry.specs.Limits.{IsRowKey, IsVal, IsSized, IfThere}
 use Rattle.sys_flow.specs.declared.command.Command.{Command}
 use Rattle.sys_flow.specs.declared.command.Command.TheVariants.{Load, Start, Enqueue, Cancel, Resume, Fork, Recover}
 use Rattle.r3_model.specs.Language.{Text}
@@ -22,12 +22,12 @@ IsListed v = ⊥
 -- a command as a line has it
 abbrev pub IsFit : Command → Type 0
 IsFit (Load table rows) =
-    IsName table × (1 ≤ length rows) × (length rows ≤ 1024) × All (λ r. IsRowKey r.0 × IsVal r.1) rows
+    (1 ≤ length rows) × (length rows ≤ 1024) × All (λ r. IsRowKey r.0 × IsVal r.1) rows
 IsFit (Start id function args) = IfThere IsText id × IsListed args
 IsFit (Enqueue id queue function args) = IfThere IsText id × IsListed args
 IsFit (Cancel id) = ⊤
 IsFit (Resume id) = ⊤
-IsFit (Fork source step to) = (step ≤ 1000) × IfThere IsText to
+IsFit (Fork source step to) = IfThere IsText to
 IsFit (Recover id) = ⊤
 
 abbrev pub Fits : List Entry → Event → Type 0

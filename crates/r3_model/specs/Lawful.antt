@@ -1,5 +1,5 @@
 -- What the laws of the machine ask of a language.
-use Rattle.std.specs.Prelude.{◌≡◌, ◌≢◌, ℕ, ◌≤◌, ◌<◌, IsTrue, List, [], ◌∷◌, ◌++◌, length, map, Some, ⊤, sum_by}
+use Rattle.std.specs.Prelude.{◌≡◌, ◌≢◌, ℕ, ◌≤◌, ◌<◌, IsTrue, List, [], ◌∷◌, ◌++◌, length, map, Some, ⊤, sum_by, true}
 use Rattle.std.specs.List.{AllByRecursion}
 use Rattle.std.specs.FinMap.Entries.{is_sorted}
 use Rattle.r3_value.specs.declared.value.Val.{Val}
@@ -94,6 +94,7 @@ pub record IsLawful (P : Language) : Type 0 where
 -- What the limits of entries ask of it besides: within the limits it stays within the limits.
 pub record IsLimited (P : Language) : Type 0 where
   -- what is declared has a name, and a workflow has few parameters
+  pub table_names : (table : Text) → P.has_table table ≡ true → IsName table
   pub names : (function : Text) (n : ℕ) → P.arity function ≡ Some n → IsName function × (n ≤ 16)
   pub queue_names : AllByRecursion (λ (q : Queue). IsName q.name) P.queues
   pub ends : (function : Text) (args : Val) (answers : List Answer)
