@@ -3,6 +3,7 @@ pub mod Closing
 pub mod Commanding
 pub mod Commits
 pub mod Dequeuing
+pub mod Discarding
 pub mod Doing
 pub mod Entered
 pub mod Entering

@@ -1,5 +1,6 @@
 pub mod Ends
 pub mod Runs
+pub mod Discards
 pub mod Does
 pub mod Fit
 pub mod Placed

@@ -1,12 +1,13 @@
 //! Commands.
 
-ghost use Rattle.std.specs.Prelude.{◌+◌, List, length, take, ◌≡◌, ℕ, IfOk, IsErrOf};
+ghost use Rattle.std.specs.Prelude.{◌+◌, List, length, take, ◌≡◌, ℕ, IfOk, OnOk, IsErrOf};
 ghost use Rattle.std.specs.Option.{ForSome};
 ghost use Rattle.r3_desk.specs.Causes.{Rose};
 ghost use Rattle.r3_desk.specs.Moments.{LeavesImage};
 ghost use Rattle.r3_entry.specs.Image.{IsHistoryOf};
 ghost use Rattle.r3_model.specs.Machine.{State};
 ghost use Rattle.r3_model.specs.Event.{Run};
+ghost use Rattle.r3_exec.specs.Discards.{DiscardsWhenDue};
 ghost use Rattle.r3_exec.specs.Runs.{Runs, language};
 ghost use Rattle.r3_exec.specs.Does.{Does, IsRead, Leaves};
 ghost use Rattle.r3_exec.specs.Ends.{command_reply};
@@ -54,6 +55,7 @@ impl Exec {
         ensures does { (st : State) (k : ℕ) → Runs D.size D.image D.may_leave desk.old self.old st k →
             IfOk result (λ end. Does D.size D.image D.may_leave D.asked D.syncs desk.old desk.new self.new st k (Run command.now) (command_reply end)) }
         ensures program { self.new.program ≡ self.old.program }
+        ensures discards { OnOk result (DiscardsWhenDue self.old self.new) }
 
         // Whatever it comes to, a crash at any moment leaves what was settled before, or all that stood before the event,
         // and that for sure once its call is asked. So reads the disk.
@@ -101,6 +103,9 @@ impl Exec {
         ensures does { (st : State) (k : ℕ) → Runs D.size D.image D.may_leave desk.old self.old st k →
             IfOk result (λ end. Does D.size D.image D.may_leave D.asked D.syncs desk.old desk.new self.new st k (Run command.now) (command_reply end)) }
         ensures program { self.new.program ≡ self.old.program }
+
+        // Versions are discarded where it closes a snapshot, if 1,024 entries were added since the last time.
+        ensures discards { OnOk result (DiscardsWhenDue self.old self.new) }
 
         // Whatever it comes to, a crash at any moment leaves what was settled before, or all that stood before the event,
         // and that for sure once its call is asked. So reads the disk.

@@ -191,6 +191,7 @@ impl Exec {
         requires one_flow { flows_in entry.writes ≤ 1 }
         requires keeping { (h : List E) × (begun : Begun) × (k : ℕ) × MayFollow h entry × Keeping D.size D.image D.may_leave desk.old self.old h begun k }
         ensures program { self.new.program ≡ self.old.program }
+        ensures others { (self.new.begun ≡ self.old.begun) × (self.new.vacuumed ≡ self.old.vacuumed) }
         ensures placed { (h : List E) (begun : Begun) (k : ℕ) → Keeping D.size D.image D.may_leave desk.old self.old h begun k → MayFollow h entry →
             IfOk result (IsPlaced D.size D.image D.may_leave desk.new self.new h begun k entry) }
         ensures conflict { (h : List E) → StoreStands self.old.store h → (j : ℕ) → result ≡ Ok (Placed.Conflict j) →
@@ -233,6 +234,7 @@ impl Exec {
         requires one_flow { flows_in entry.writes ≤ 1 }
         requires keeping { (h : List E) × (begun : Begun) × (k : ℕ) × MayFollow h entry × Keeping D.size D.image D.may_leave desk.old self.old h begun k }
         ensures program { self.new.program ≡ self.old.program }
+        ensures others { (self.new.begun ≡ self.old.begun) × (self.new.vacuumed ≡ self.old.vacuumed) }
         ensures placed { (h : List E) (begun : Begun) (k : ℕ) → Keeping D.size D.image D.may_leave desk.old self.old h begun k → MayFollow h entry →
             IfOk result (IsPlaced D.size D.image D.may_leave desk.new self.new h begun k entry) }
         ensures conflict { (h : List E) → StoreStands self.old.store h → (j : ℕ) → result ≡ Ok (Placed.Conflict j) →

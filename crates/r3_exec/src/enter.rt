@@ -1,6 +1,6 @@
 //! The entry of an event.
 
-ghost use Rattle.std.specs.Prelude.{◌≡◌, ◌≢◌, ◌<◌, [], ℕ, List, Option, length, take, IfOk, IsErrOf};
+ghost use Rattle.std.specs.Prelude.{◌≡◌, ◌≢◌, ◌<◌, [], ℕ, List, Option, length, take, IfOk, OnOk, IsErrOf};
 ghost use Rattle.std.specs.Option.{ForSome};
 ghost use Rattle.r3_desk.specs.Causes.{Rose};
 ghost use Rattle.r3_desk.specs.Moments.{LeavesImage};
@@ -10,6 +10,7 @@ ghost use Rattle.r3_entry.specs.Image.{IsHistoryOf};
 ghost use Rattle.r3_model.specs.Event.{Event, Reply};
 ghost use Rattle.r3_model.specs.Machine.{State, Begun};
 ghost use Rattle.r3_store.specs.Holds.{Stands as StoreStands};
+ghost use Rattle.r3_exec.specs.Discards.{DiscardsWhenDue};
 ghost use Rattle.r3_exec.specs.Runs.{Keeps, Runs, language};
 ghost use Rattle.r3_exec.specs.Entered.{Gives, HasCome, closing, after_closing};
 
@@ -55,6 +56,7 @@ impl Exec {
         requires { (h : List E) × (begun : Begun) × Keeps self.old h begun }
         ensures program { self.new.program ≡ self.old.program }
         ensures gate { self.new.store.gate ≡ self.old.store.gate }
+        ensures discards { DiscardsWhenDue self.old self.new }
         ensures closed { (h : List E) (begun : Begun) → Keeps self.old h begun → Keeps self.new h (after_closing id.now begun) }
     {
         match id {
@@ -76,6 +78,7 @@ impl Exec {
         requires gives { (st : State) × (k : ℕ) × (ev : Event) × (answer : Option Outcome) × (r : Reply)
             × Runs D.size D.image D.may_leave desk.old self.old st k × Gives (language self.old) st ev answer entry r }
         ensures program { self.new.program ≡ self.old.program }
+        ensures discards { OnOk result (DiscardsWhenDue self.old self.new) }
         ensures come { (st : State) (k : ℕ) (ev : Event) (answer : Option Outcome) (r : Reply) →
             Runs D.size D.image D.may_leave desk.old self.old st k → Gives (language self.old) st ev answer entry r →
             IfOk result (HasCome (language self.old) D.size D.image D.may_leave desk.new self.new st k ev answer entry r) }
@@ -122,6 +125,7 @@ impl Exec {
         requires gives { (st : State) × (k : ℕ) × (ev : Event) × (answer : Option Outcome) × (r : Reply)
             × Runs D.size D.image D.may_leave desk.old self.old st k × Gives (language self.old) st ev answer entry r }
         ensures program { self.new.program ≡ self.old.program }
+        ensures discards { OnOk result (DiscardsWhenDue self.old self.new) }
         ensures come { (st : State) (k : ℕ) (ev : Event) (answer : Option Outcome) (r : Reply) →
             Runs D.size D.image D.may_leave desk.old self.old st k → Gives (language self.old) st ev answer entry r →
             IfOk result (HasCome (language self.old) D.size D.image D.may_leave desk.new self.new st k ev answer entry r) }

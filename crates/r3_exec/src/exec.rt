@@ -1,6 +1,6 @@
 //! The executor.
 
-ghost use Rattle.std.specs.Prelude.{◌≡◌, ◌++◌, ◌∷◌, [], ℕ, length, map, IfOk, OnOk, IsErrOf};
+ghost use Rattle.std.specs.Prelude.{◌≡◌, ◌++◌, ◌∷◌, [], ℕ, Ok, length, map, IfOk, OnOk, IsErrOf};
 ghost use Rattle.std.specs.Option.{option_copied};
 ghost use Rattle.std.specs.Option.{ForSome};
 ghost use Rattle.std.specs.List.{filter_map};
@@ -116,6 +116,11 @@ impl Exec {
         ensures settled { (st : State) (k : ℕ) → Runs D.size D.image D.may_leave desk.old self.old st k →
             OnOk result (Runs D.size D.image D.may_leave desk.new self.new st (length st.history)) }
         ensures program { self.new.program ≡ self.old.program }
+        ensures others { (self.new.begun ≡ self.old.begun) × (self.new.vacuumed ≡ self.old.vacuumed) }
+
+        // Where all is settled already, nothing is written or synced.
+        ensures idle { (st : State) → Runs D.size D.image D.may_leave desk.old self.old st (length st.history) →
+            (result ≡ Ok tt) × (self.new ≡ self.old) × (desk.new ≡ desk.old) }
 
         // A crash at any moment leaves what was settled, with all entries since or without.
         ensures crash { (st : State) (k : ℕ) → Runs D.size D.image D.may_leave desk.old self.old st k →

@@ -91,6 +91,7 @@ impl Exec {
         ensures stands { (h : List Entry) → StoreStands store h → IfOk result (λ e. Stands e (restarted h)) }
         ensures store { IfOk result (λ e. e.store ≡ store) }
         ensures program { IfOk result (λ e. e.program ≡ program) }
+        ensures vacuumed { (h : List Entry) → StoreStands store h → IfOk result (λ e. e.vacuumed ≡ length h) }
     {
         let vacuumed = store.len();
         match indexes(alloc, &program, &store) {

@@ -6,6 +6,7 @@ ghost use Rattle.r3_rows.specs.Keys.{bytes_cmp};
 ghost use Rattle.r3_entry.specs.declared.entry.Entry.{Entry};
 ghost use Rattle.r3_model.specs.Machine.{Begun, opened, closed};
 ghost use Rattle.r3_store.specs.Holds.{Stands as StoreStands};
+ghost use Rattle.r3_exec.specs.Discards.{Discards, DiscardsWhenDue};
 ghost use Rattle.r3_exec.specs.Runs.{Keeps};
 
 use crate::exec::Exec;
@@ -33,6 +34,7 @@ impl Exec {
         ensures gate { self.new.store.gate ≡ self.old.store.gate }
         ensures opened { (h : List Entry) (begun : Begun) → Keeps self.old h begun → find bytes_cmp id.now begun ≡ None →
             IfOk result (λ snap. (snap ≡ length h) × Keeps self.new h (opened id.now snap begun)) }
+        ensures discards { OnOk result (DiscardsWhenDue self.old self.new) }
     {
         let snap = self.store.len();
         let id = id.copy()?;
@@ -50,7 +52,7 @@ impl Exec {
         ensures program { self.new.program ≡ self.old.program }
         ensures gate { self.new.store.gate ≡ self.old.store.gate }
         ensures keeps { (h : List Entry) (begun : Begun) → Keeps self.old h begun → Keeps self.new h begun }
-        ensures due { (h : List Entry) → StoreStands self.old.store h → self.old.vacuumed + 1024 ≤ length h → self.new.vacuumed ≡ length h }
+        ensures due { (h : List Entry) → StoreStands self.old.store h → self.old.vacuumed + 1024 ≤ length h → Discards self.old self.new }
         ensures not_due { (h : List Entry) → StoreStands self.old.store h → length h < self.old.vacuumed + 1024 → self.new ≡ self.old }
     {
         let len = self.store.len();
@@ -70,8 +72,7 @@ impl Exec {
         ensures closed { (h : List Entry) (begun : Begun) → Keeps self.old h begun → Keeps self.new h (closed id.now begun) }
 
         // Versions are discarded with it, where 1,024 entries or more were added since the last time.
-        ensures due { (h : List Entry) (begun : Begun) (snap : ℕ) → Keeps self.old h begun → find bytes_cmp id.now begun ≡ Some snap →
-            self.old.vacuumed + 1024 ≤ length h → self.new.vacuumed ≡ length h }
+        ensures discards { DiscardsWhenDue self.old self.new }
     {
         match self.begun.remove(id) {
             Some(snap) => {

@@ -1,6 +1,6 @@
 //! The parts of a turn: its entry, its external call.
 
-ghost use Rattle.std.specs.Prelude.{◌≡◌, ◌⊎◌, ◌+◌, ℕ, List, Some, length, take, IfOk, OnErr, IsErrOf, Ok};
+ghost use Rattle.std.specs.Prelude.{◌≡◌, ◌⊎◌, ◌+◌, ℕ, List, Some, length, take, IfOk, OnOk, OnErr, IsErrOf, Ok};
 ghost use Rattle.std.specs.Option.{ForSome};
 ghost use Rattle.r3_desk.specs.Causes.{Rose};
 ghost use Rattle.r3_desk.specs.Moments.{LeavesImage};
@@ -16,6 +16,7 @@ ghost use Rattle.r3_model.specs.Turns.{call_of_turn, turned};
 ghost use Rattle.r3_exec.specs.Does.{Does, AskedFirst, IsRead, Leaves, SyncsWithin};
 ghost use Rattle.r3_exec.specs.Ends.{turn_reply};
 ghost use Rattle.r3_exec.specs.Entered.{HasNumber, reply_after};
+ghost use Rattle.r3_exec.specs.Discards.{DiscardsWhenDue};
 ghost use Rattle.r3_exec.specs.Runs.{Runs, language};
 ghost use Rattle.r3_exec.specs.Turning.{Comes, HasRecorded, IsCalled};
 
@@ -71,6 +72,7 @@ impl Exec {
         ensures does { (st : State) (k : ℕ) → Runs D.size D.image D.may_leave desk.old self.old st k →
             IfOk result (λ end. Does D.size D.image D.may_leave D.asked D.syncs desk.old desk.new self.new st k (Turn id.now) (turn_reply end)) }
         ensures program { self.new.program ≡ self.old.program }
+        ensures discards { OnOk result (DiscardsWhenDue self.old self.new) }
         ensures crash { (st : State) (k : ℕ) → Runs D.size D.image D.may_leave desk.old self.old st k →
             Leaves D.moment D.reach D.said D.asked desk.old desk.new st.history k }
         ensures reads { (st : State) (k : ℕ) → Runs D.size D.image D.may_leave desk.old self.old st k →
@@ -103,6 +105,7 @@ impl Exec {
         ensures recorded { (st : State) (k : ℕ) → Runs D.size D.image D.may_leave desk.old self.old st k → IsCalled (language self.old) st id.now request.now →
             IfOk result (HasRecorded (language self.old) D.size D.image D.may_leave desk.new self.new st k id.now outcome) }
         ensures program { self.new.program ≡ self.old.program }
+        ensures discards { OnOk result (DiscardsWhenDue self.old self.new) }
         ensures crash { (st : State) (k : ℕ) → Runs D.size D.image D.may_leave desk.old self.old st k →
             Leaves D.moment D.reach D.said D.asked desk.old desk.new st.history k }
         ensures reads { (st : State) (k : ℕ) → Runs D.size D.image D.may_leave desk.old self.old st k →
@@ -139,6 +142,7 @@ impl Exec {
         ensures does { (st : State) (k : ℕ) → Runs D.size D.image D.may_leave desk.old self.old st (length st.history) → IsCalled (language self.old) st id.now request.now →
             IfOk result (λ end. Does D.size D.image D.may_leave D.asked D.syncs desk.old desk.new self.new st k (Turn id.now) (turn_reply end)) }
         ensures program { self.new.program ≡ self.old.program }
+        ensures discards { OnOk result (DiscardsWhenDue self.old self.new) }
         ensures crash { (st : State) → Runs D.size D.image D.may_leave desk.old self.old st (length st.history) →
             Leaves D.moment D.reach D.said D.asked desk.old desk.new st.history (length st.history) }
         ensures reads { (st : State) → Runs D.size D.image D.may_leave desk.old self.old st (length st.history) →
@@ -179,6 +183,7 @@ impl Exec {
         ensures does { (st : State) (k : ℕ) → Runs D.size D.image D.may_leave desk.old self.old st k →
             IfOk result (λ end. Does D.size D.image D.may_leave D.asked D.syncs desk.old desk.new self.new st k (Turn id.now) (turn_reply end)) }
         ensures program { self.new.program ≡ self.old.program }
+        ensures discards { OnOk result (DiscardsWhenDue self.old self.new) }
         ensures crash { (st : State) (k : ℕ) → Runs D.size D.image D.may_leave desk.old self.old st k →
             Leaves D.moment D.reach D.said D.asked desk.old desk.new st.history k }
         ensures reads { (st : State) (k : ℕ) → Runs D.size D.image D.may_leave desk.old self.old st k →

@@ -1,6 +1,6 @@
 //! A turn that asks for a transaction: the first opens its snapshot, and the next commits what its body wrote.
 
-ghost use Rattle.std.specs.Prelude.{◌≡◌, ℕ, List, length, IfOk, IsErrOf, Ok};
+ghost use Rattle.std.specs.Prelude.{◌≡◌, ℕ, List, length, IfOk, OnOk, IsErrOf, Ok};
 ghost use Rattle.std.specs.Option.{ForSome};
 ghost use Rattle.r3_desk.specs.Causes.{Rose};
 ghost use Rattle.fn_tree.specs.declared.flow.Request.{Request as Asked};
@@ -10,6 +10,7 @@ ghost use Rattle.r3_model.specs.Acts.{txn_entry};
 ghost use Rattle.r3_model.specs.Event.{Turn};
 ghost use Rattle.r3_model.specs.Machine.{Begun, State, closed};
 ghost use Rattle.r3_model.specs.Turns.{call_of_turn, run_on, turned};
+ghost use Rattle.r3_exec.specs.Discards.{DiscardsWhenDue};
 ghost use Rattle.r3_exec.specs.Does.{Does, IsRead, Leaves};
 ghost use Rattle.r3_exec.specs.Ends.{turn_reply};
 ghost use Rattle.r3_exec.specs.Runs.{Keeps, Runs, Stands, language};
@@ -58,6 +59,7 @@ impl Exec {
         ensures closed { (h : List E) (begun : Begun) → Keeps self.old h begun → Keeps self.new h (closed id.now begun) }
         ensures gate { self.new.store.gate ≡ self.old.store.gate }
         ensures program { self.new.program ≡ self.old.program }
+        ensures discards { DiscardsWhenDue self.old self.new }
     {
         self.close(id);
         end
@@ -70,6 +72,7 @@ impl Exec {
         ensures begun { (h : List E) (begun : Begun) → Keeps self.old h begun → Keeps self.new h (begun_after id.now placed begun) }
         ensures gate { self.new.store.gate ≡ self.old.store.gate }
         ensures program { self.new.program ≡ self.old.program }
+        ensures discards { DiscardsWhenDue self.old self.new }
     {
         match placed {
             Placed::Number(number) => self.closing(id, TurnEnd::Entry { number }),
@@ -90,6 +93,7 @@ impl Exec {
         ensures does { (st : State) (k : ℕ) → Runs D.size D.image D.may_leave desk.old self.old st k → IsTxnEntry (language self.old) st id.now entry →
             IfOk result (λ end. Does D.size D.image D.may_leave D.asked D.syncs desk.old desk.new self.new st k (Turn id.now) (turn_reply end)) }
         ensures program { self.new.program ≡ self.old.program }
+        ensures discards { OnOk result (DiscardsWhenDue self.old self.new) }
         ensures crash { (st : State) (k : ℕ) → Runs D.size D.image D.may_leave desk.old self.old st k →
             Leaves D.moment D.reach D.said D.asked desk.old desk.new st.history k }
         ensures reads { (st : State) (k : ℕ) → Runs D.size D.image D.may_leave desk.old self.old st k →
@@ -123,6 +127,7 @@ impl Exec {
             IfOk result (λ snap. (snap ≡ length st.history) × Stands self.new (begun_at id.now st)) }
         ensures gate { self.new.store.gate ≡ self.old.store.gate }
         ensures program { self.new.program ≡ self.old.program }
+        ensures discards { OnOk result (DiscardsWhenDue self.old self.new) }
     {
         programs_are_lawful();
         programs_are_limited();
@@ -150,6 +155,7 @@ impl Exec {
         ensures does { (st : State) (k : ℕ) → Runs D.size D.image D.may_leave desk.old self.old st k →
             IfOk result (λ end. Does D.size D.image D.may_leave D.asked D.syncs desk.old desk.new self.new st k (Turn id.now) (turn_reply end)) }
         ensures program { self.new.program ≡ self.old.program }
+        ensures discards { OnOk result (DiscardsWhenDue self.old self.new) }
         ensures crash { (st : State) (k : ℕ) → Runs D.size D.image D.may_leave desk.old self.old st k →
             Leaves D.moment D.reach D.said D.asked desk.old desk.new st.history k }
         ensures reads { (st : State) (k : ℕ) → Runs D.size D.image D.may_leave desk.old self.old st k →

@@ -6,6 +6,7 @@ use Rattle.r3_commands.specs.Drafts.{given_of}
 use Rattle.r3_commands.specs.declared.drafts.Draft.{Draft}
 use Rattle.r3_exec.proofs.Doing.{by_answer}
 use Rattle.r3_exec.proofs.Leaving.{quiet}
+use Rattle.r3_exec.proofs.Discarding.{nothing_done}
 use Rattle.r3_exec.proofs.exec.Exec.append.Goals as goal
 
 pub returns-in-Ok-Known-clause-does : goal.returns-in-Ok-Known-clause-does
@@ -29,3 +30,9 @@ returns-in-Ok-Known-clause-staged g c = λ st k runs.
     started g.D.Desk.moment g.D.Desk.reach g.D.Desk.may_leave g.D.Desk.said g.D.Desk.asked c.args.desk.now (IsHistoryOf (take k st.history))
     (g.met.D.Desk.counts_now c.args.desk.now) (g.met.D.Desk.only_now c.args.desk.now)
     (λ image left. c.reads_as_settled.ensures.crash c.args.desk.now c.args.self.now.store st.history k image runs.holds left)
+
+pub returns-in-Ok-Known-clause-discards : goal.returns-in-Ok-Known-clause-discards
+returns-in-Ok-Known-clause-discards g c = nothing_done c.args.self.now
+
+pub returns-in-Ok-Refused-clause-discards : goal.returns-in-Ok-Refused-clause-discards
+returns-in-Ok-Refused-clause-discards g c = nothing_done c.args.self.now

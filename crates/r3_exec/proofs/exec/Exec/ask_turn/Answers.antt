@@ -24,6 +24,7 @@ use Rattle.r3_exec.proofs.Asking.{by_ask, leaves_on, told_more}
 use Rattle.r3_exec.proofs.Doing.{told_none}
 use Rattle.r3_exec.proofs.Syncs.{no_more}
 use Rattle.r3_exec.proofs.TurnGives.{fails, one_call}
+use Rattle.r3_exec.proofs.Discarding.{nothing_done}
 use Rattle.r3_exec.proofs.exec.Exec.ask_turn.Goals as goal
 
 -- the call, as it is told
@@ -165,3 +166,6 @@ returns-in-Err-Memory-clause-early g c = λ st runs called.
     told_as (g.D.Desk.asked c.args.desk.now) (g.D.Desk.asked c.ask.new.self) c.args.id.now c.as_str.result.now q.n q.name c.as_str-2.result.now q.args c.ask.result (Err asks.Memory)
     c.ask.ensures.asked c.as_str.ensures.text c.as_str-2.ensures.text (c.in-Err-Memory.is ∙ ap (λ (f : AskFault). Err f) c.in-Err-Memory.field-0-is) in
     (None, 0, told ∙ told_none (g.D.Desk.asked c.args.desk.now))
+
+pub returns-in-Err-Fault-clause-discards : goal.returns-in-Err-Fault-clause-discards
+returns-in-Err-Fault-clause-discards g c = nothing_done c.args.self.now

@@ -11,6 +11,7 @@ use Rattle.r3_exec.specs.Turning.{IsCalled}
 use Rattle.r3_exec.proofs.Asking.{leaves_on, told_more}
 use Rattle.r3_exec.proofs.Doing.{told_none}
 use Rattle.r3_exec.proofs.TurnGives.{one_call}
+use Rattle.r3_exec.proofs.Discarding.{closes_behind}
 use Rattle.r3_exec.proofs.exec.Exec.call_turn.Goals as goal
 
 pub ask_turn-requires : goal.ask_turn-requires
@@ -64,6 +65,10 @@ returns-in-Err-ask_turn-clause-crash g c = λ st k runs.
     (subst (λ (o : Option (List desk.Call)). told_len (g.D.Desk.asked c.settle.new.desk) ≤ told_len o) (sym e.2) (told_more (g.D.Desk.asked c.settle.new.desk) _))
     (c.settle.ensures.crash st k runs) (c.ask_turn.ensures.crash st settled)
 
+pub returns-in-Ok-ask_turn-clause-reads : goal.returns-in-Ok-ask_turn-clause-reads
+returns-in-Ok-ask_turn-clause-reads g c = λ st k runs image told.
+    inl (c.ask_turn.ensures.reads st (c.in-Ok.ensures.settled st k runs) image told)
+
 pub returns-in-Err-ask_turn-clause-reads : goal.returns-in-Err-ask_turn-clause-reads
 returns-in-Err-ask_turn-clause-reads g c = λ st k runs image told.
     inl (c.ask_turn.ensures.reads st (c.in-Ok.ensures.settled st k runs) image told)
@@ -95,3 +100,6 @@ pub returns-in-Err-ask_turn-clause-few_syncs : goal.returns-in-Err-ask_turn-clau
 returns-in-Err-ask_turn-clause-few_syncs g c =
     let s = c.settle.ensures.few_syncs in
     (s.0, s.1, c.ask_turn.ensures.syncs ∙ s.2)
+
+pub returns-in-Ok-ask_turn-clause-discards : goal.returns-in-Ok-ask_turn-clause-discards
+returns-in-Ok-ask_turn-clause-discards g c = closes_behind c.args.self.now c.settle.new.self c.ask_turn.new.self c.settle.ensures.others c.in-Ok-ask_turn.ensures.discards

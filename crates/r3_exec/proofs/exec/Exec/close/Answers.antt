@@ -1,4 +1,4 @@
-use Rattle.std.proofs.Common.{◌≡◌, Some, None, not, refl, sym, ap, ◌∙◌, subst}
+use Rattle.std.proofs.Common.{◌≡◌, not, refl, sym, ap, ◌∙◌, subst}
 use Rattle.std.specs.Prelude.{T, bytes_eq}
 use Rattle.std.specs.FinMap.Entries.{is_sorted, is_sorted-where_key}
 use Rattle.r3_rows.specs.Keys.{bytes_cmp}
@@ -7,7 +7,8 @@ use Rattle.r3_model.specs.Machine.{Begun, closed}
 use Rattle.r3_chain.proofs.PutLemmas.{found_is}
 use Rattle.r3_exec.specs.Runs.{ArePinned}
 use Rattle.r3_exec.proofs.Begun.{removed, none_closed}
-use Rattle.r3_exec.proofs.Closing.{found_open, open_pinned, released}
+use Rattle.r3_exec.proofs.Closing.{open_pinned, released}
+use Rattle.r3_exec.proofs.Discarding.{closes_now, entries_stay}
 use Rattle.r3_exec.proofs.exec.Exec.close.Goals as goal
 
 pub release-requires : goal.release-requires
@@ -30,15 +31,6 @@ returns-in-Some-clause-closed c = λ h begun keeps.
     (released c.args.self.now _ h begun c.args.id.now c.in-Some.snap keeps c.in-Some.ensures.value refl c.in-Some.ensures.entries
     (c.release.ensures.keeps h keeps.store) c.release.ensures.one)
 
-pub returns-in-Some-clause-due : goal.returns-in-Some-clause-due
-returns-in-Some-clause-due c = λ h begun snap keeps found long.
-    c.vacuum_when_due.ensures.due h (c.release.ensures.keeps h keeps.store) long
-
-pub returns-in-None-clause-due : goal.returns-in-None-clause-due
-returns-in-None-clause-due c = λ h begun snap keeps found long.
-    let none = found_open c.args.self.now h begun c.args.id.now _ keeps c.in-None.ensures.value in
-    absurd (let wrong : Some snap ≡ None = sym found ∙ none in cc)
-
 pub returns-in-None-clause-closed : goal.returns-in-None-clause-closed
 returns-in-None-clause-closed c = λ h begun keeps.
     let id = c.args.id.now in
@@ -56,3 +48,18 @@ returns-in-None-clause-closed c = λ h begun keeps.
       pending = keeps.pending;
       vacuumed = keeps.vacuumed;
     }
+
+pub returns-in-Some-clause-discards : goal.returns-in-Some-clause-discards
+returns-in-Some-clause-discards c =
+    let x = c.requires in
+    let stands = c.release.ensures.keeps x.0 x.2.store in
+    closes_now c.args.self.now _ _ x.0 refl stands c.vacuum_when_due.ensures.gate (c.vacuum_when_due.ensures.due x.0 stands) (c.vacuum_when_due.ensures.not_due x.0 stands)
+
+pub returns-in-None-clause-discards : goal.returns-in-None-clause-discards
+returns-in-None-clause-discards c =
+    let x = c.requires in
+    let id = c.args.id.now in
+    let es = c.args.self.now.begun.entries in
+    let none = sym (found_is bytes_cmp id es) ∙ sym c.in-None.ensures.value in
+    let sorted = subst (λ (b : Begun). T (is_sorted bytes_cmp b)) (sym x.2.snapshots) x.2.in_order in
+    entries_stay c.args.self.now _ (c.in-None.ensures.entries ∙ none_closed id es sorted none) refl

@@ -16,6 +16,7 @@ use Rattle.r3_exec.proofs.Leaving.{by_images_settled}
 use Rattle.r3_exec.proofs.Txns.{keeping_after, not_empty, step_of}
 use Rattle.r3_exec.proofs.TxnEntries.{is_entry, may_follow, one_flow, payload}
 use Rattle.r3_exec.proofs.Writers.{is_open_now, same_conflict}
+use Rattle.r3_exec.proofs.Discarding.{closes_behind}
 use Rattle.r3_exec.proofs.exec.Exec.commit_entry.Goals as goal
 
 pub place-requires-clause-limits : goal.place-requires-clause-limits
@@ -124,3 +125,6 @@ pub returns-in-Err-clause-syncs : goal.returns-in-Err-clause-syncs
 returns-in-Err-clause-syncs g c =
     let x = c.requires.commits in
     c.place.ensures.syncs x.0.history x.2.stands.keeps.store (not_empty x.0.history x.2.stands.valid.begins)
+
+pub returns-in-Ok-clause-discards : goal.returns-in-Ok-clause-discards
+returns-in-Ok-clause-discards g c = closes_behind c.args.self.now c.place.new.self c.ended.new.self c.place.ensures.others c.ended.ensures.discards

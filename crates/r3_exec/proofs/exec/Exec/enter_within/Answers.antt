@@ -12,6 +12,7 @@ use Rattle.r3_exec.specs.Runs.{Keeps, language}
 use Rattle.r3_exec.specs.declared.commit.Placed.{Placed}
 use Rattle.r3_exec.specs.declared.enter.Entered.TheVariants as ends
 use Rattle.r3_exec.proofs.Entering.{closes, may, no_conflict, one_flow, step_full, step_number, still_valid, within}
+use Rattle.r3_exec.proofs.Discarding.{closes_behind, same_snapshots}
 use Rattle.r3_exec.proofs.exec.Exec.enter_within.Goals as goal
 
 pub place-requires-clause-limits : goal.place-requires-clause-limits
@@ -97,3 +98,9 @@ returns-in-Ok-Full-clause-come g c = λ st k ev answer r runs gives.
         holds = p.1.holds;
       };
     }
+
+pub returns-in-Ok-Number-clause-discards : goal.returns-in-Ok-Number-clause-discards
+returns-in-Ok-Number-clause-discards g c = closes_behind c.args.self.now c.place.new.self c.close_of.new.self c.place.ensures.others c.close_of.ensures.discards
+
+pub returns-in-Ok-Full-clause-discards : goal.returns-in-Ok-Full-clause-discards
+returns-in-Ok-Full-clause-discards g c = same_snapshots c.args.self.now c.place.new.self c.place.ensures.others

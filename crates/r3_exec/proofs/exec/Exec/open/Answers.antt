@@ -1,4 +1,4 @@
-use Rattle.std.proofs.Common.{ℕ, List, sym, ap, ◌∙◌, subst}
+use Rattle.std.proofs.Common.{ℕ, List, refl, sym, ap, ◌∙◌, subst}
 use Rattle.std.specs.Map.{keys_of}
 use Rattle.std.specs.List.Sorted.{IsStrictlySortedBy}
 use Rattle.std.specs.FinMap.Entries.{is_sorted-put}
@@ -9,6 +9,7 @@ use Rattle.r3_model.specs.Machine.{Begun, opened}
 use Rattle.r3_chain.proofs.PutLemmas.{insert_put}
 use Rattle.r3_exec.specs.Runs.{ArePinned}
 use Rattle.r3_exec.proofs.Begun.{one_more}
+use Rattle.r3_exec.proofs.Discarding.{insert_grows, none_closes}
 use Rattle.r3_exec.proofs.exec.Exec.open.Goals as goal
 
 pub returns-clause-opened : goal.returns-clause-opened
@@ -30,3 +31,7 @@ returns-clause-opened c = λ h begun keeps none.
         vacuumed = keeps.vacuumed;
       },
     )
+
+pub returns-clause-discards : goal.returns-clause-discards
+returns-clause-discards c =
+    none_closes c.args.self.now _ (insert_grows c.in_ok-id.id c.len-snap.result c.args.self.now.begun.entries _ c.in-Ok.ensures.entries) refl

@@ -1,4 +1,5 @@
-use Rattle.std.proofs.Common.{inl, inr, ⊎_elim}
+use Rattle.std.proofs.Common.{refl, ap, inl, inr, ⊎_elim}
+use Rattle.r3_store.specs.declared.store.Store.{Store}
 use Rattle.r3_exec.proofs.Leaving.{by_images}
 use Rattle.r3_exec.proofs.Parts.{with_store}
 use Rattle.r3_exec.proofs.Syncs.{few_more}
@@ -32,3 +33,12 @@ returns-in-Ok-clause-few_syncs g c = few_more _ _ c.settle.ensures.at_most
 
 pub returns-in-Err-clause-few_syncs : goal.returns-in-Err-clause-few_syncs
 returns-in-Err-clause-few_syncs g c = few_more _ _ c.settle.ensures.at_most
+
+pub returns-in-Ok-clause-idle : goal.returns-in-Ok-clause-idle
+returns-in-Ok-clause-idle g c = λ st runs.
+    let idle = c.settle.ensures.idle st.history runs.holds in
+    (refl, ap (λ (s : Store). record c.args.self.now { store = s }) idle.1, idle.2)
+
+pub returns-in-Err-clause-idle : goal.returns-in-Err-clause-idle
+returns-in-Err-clause-idle g c = λ st runs.
+    let idle = c.settle.ensures.idle st.history runs.holds in absurd cc

@@ -14,6 +14,7 @@ use Rattle.r3_exec.proofs.Leaving.{quiet}
 use Rattle.r3_exec.proofs.Syncs.{no_more}
 use Rattle.r3_exec.proofs.TurnGives.{no_call}
 use Rattle.r3_exec.proofs.Turnings.{on_err}
+use Rattle.r3_exec.proofs.Discarding.{nothing_done}
 use Rattle.r3_exec.proofs.exec.Exec.turn_of.Goals as goal
 
 pub returns-in-Ok-NotPending-clause-does : goal.returns-in-Ok-NotPending-clause-does
@@ -98,3 +99,12 @@ returns-in-Ok-Commits-clause-few_syncs g c = no_more (g.D.Desk.syncs c.args.desk
 
 pub returns-in-Err-clause-few_syncs : goal.returns-in-Err-clause-few_syncs
 returns-in-Err-clause-few_syncs g c = no_more (g.D.Desk.syncs c.args.desk.now) (g.D.Desk.syncs c.args.desk.now) refl 2
+
+pub returns-in-Ok-NotPending-clause-discards : goal.returns-in-Ok-NotPending-clause-discards
+returns-in-Ok-NotPending-clause-discards g c = nothing_done c.args.self.now
+
+pub returns-in-Ok-Unexpected-clause-discards : goal.returns-in-Ok-Unexpected-clause-discards
+returns-in-Ok-Unexpected-clause-discards g c = nothing_done c.args.self.now
+
+pub returns-in-Ok-Waiting-clause-discards : goal.returns-in-Ok-Waiting-clause-discards
+returns-in-Ok-Waiting-clause-discards g c = nothing_done c.args.self.now
