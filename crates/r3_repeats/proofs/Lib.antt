@@ -9,5 +9,6 @@ mod Telling
 pub mod Placing
 pub mod Holding
 mod Storing
+mod Making
 mod Worked
 mod WorkedStarts

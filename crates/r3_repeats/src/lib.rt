@@ -9,5 +9,5 @@
 mod calls;
 mod starts;
 
-pub use calls::{repeats_are_alike, whole_calls_go};
+pub use calls::{repeats_are_alike, stores_steps_once, whole_calls_go};
 pub use starts::{accepts_repeats, keeps_starts, tells_starts};
