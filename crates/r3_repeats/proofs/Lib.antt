@@ -9,6 +9,7 @@ mod Telling
 pub mod Placing
 pub mod Holding
 mod Storing
+mod Expecting
 mod Making
 mod Worked
 mod WorkedStarts

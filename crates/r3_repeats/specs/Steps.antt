@@ -5,14 +5,14 @@ use Rattle.r3_rows.specs.declared.rows.StepKind.TheVariants as kinds
 use Rattle.r3_rows.specs.declared.rows.StepRow.{StepRow}
 use Rattle.r3_entry.specs.declared.entry.Entry.{Entry}
 use Rattle.r3_model.specs.Acts.{step_write}
-use Rattle.r3_model.specs.Event.{Append}
+use Rattle.r3_model.specs.Event.{Append, Reply, Unexpects}
 use Rattle.r3_model.specs.Language.{Text, Language}
 use Rattle.r3_model.specs.Lawful.{IsLawful}
 use Rattle.r3_model.specs.Made.{IsMade}
 use Rattle.r3_model.specs.Script.{Line, Does}
 use Rattle.r3_laws.specs.OfEvents.{HasRows}
 use Rattle.r3_laws.specs.OfHistories.{WritesStepsOnce, Commits, Copies}
-use Rattle.r3_repeats.specs.Invocations.{Invocation, AreOnOneStore}
+use Rattle.r3_repeats.specs.Invocations.{Invocation, told_in, AreOnOneStore}
 
 -- ---- what the calls were given
 
@@ -47,3 +47,16 @@ abbrev pub StoresStepsOnce : Type 0
 StoresStepsOnce = (P : Language) (first : List Entry) (calls : List Invocation) (a : ℕ) (i : Invocation)
     → IsLawful P → IsMade P first → AreOnOneStore P first calls → AllByRecursion KeepsLimits calls → slice_get calls a ≡ Some i
     → HasStepsOnce P i.left
+
+-- ---- what they answer
+
+-- it tells of no turn that its workflow's function went another way than its recorded steps
+abbrev pub IsExpected : Reply → Type 0
+IsExpected (Unexpects n recorded asked) = ⊥
+IsExpected r = ⊤
+
+-- nothing in a call is answered so: no line, and no turn of a drain
+abbrev pub ExpectsEachTurn : Type 0
+ExpectsEachTurn = (P : Language) (first : List Entry) (calls : List Invocation) (a : ℕ) (i : Invocation)
+    → IsLawful P → IsMade P first → AreOnOneStore P first calls → AllByRecursion KeepsLimits calls → slice_get calls a ≡ Some i
+    → AllByRecursion IsExpected (told_in P i).said × AllByRecursion IsExpected (told_in P i).trail.replies

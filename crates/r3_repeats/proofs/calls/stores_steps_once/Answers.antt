@@ -1,10 +1,11 @@
-use Rattle.r3_repeats.proofs.Making.{leaves-made}
+use Rattle.r3_repeats.proofs.Making.{leaves-made, stores-once, expects-turns}
 use Rattle.r3_repeats.proofs.calls.stores_steps_once.Goals as goal
 
 pub returns-clause-made : goal.returns-clause-made
 returns-clause-made c = leaves-made
 
 pub returns-clause-once : goal.returns-clause-once
-returns-clause-once c = λ P first calls a i lawful made on_store limits is.
-    let law = c.commits_once.ensures P i.left lawful (leaves-made P first calls a i made on_store limits is) in
-    record { once = law.0; with_writes = law.1 }
+returns-clause-once c = stores-once c.commits_once.ensures
+
+pub returns-clause-expects : goal.returns-clause-expects
+returns-clause-expects c = expects-turns c.expects_all.ensures
