@@ -5,5 +5,7 @@
 #![tactic(auto)]
 
 mod calls;
+mod lines;
 
-pub use calls::{calls_are_on_one_store, calls_fit};
+pub use calls::{calls_are_on_one_store, calls_fit, calls_store_steps_once};
+pub use lines::lines_keep_limits;
