@@ -1,9 +1,8 @@
 -- Which lines a script can have, and the generator has.
-use Rattle.std.proofs.Common.{◌≡◌, ℕ, suc, zero, ◌+◌, ◌≤◌, Bool, true, false, List, [], ◌∷◌, ◌++◌, length, map, Option, Some, None, refl, sym, subst, ap, ◌∙◌, arith}
+use Rattle.std.proofs.Common.{◌≡◌, ℕ, suc, zero, ◌+◌, ◌≤◌, Bool, true, false, List, [], ◌∷◌, ◌++◌, length, map, Option, Some, None, refl, sym, subst, arith}
 use Rattle.std.specs.Prelude.{◌==◌, ◌&&◌, ◌%◌, codes, if◌then◌else◌, nat_le, option_map, option_and_then, ⊤}
 use Rattle.std.specs.List.{AllByRecursion}
 use Rattle.std.specs.Option.{option_map_or}
-use Rattle.std.proofs.lemmas.List.{length-map}
 use Rattle.serde_json.specs.Data.{Data, Members, no_members, member}
 use Rattle.serde_json.specs.Find.{get, as_object}
 use Rattle.r3_json.specs.Lines.{parse}
@@ -12,8 +11,8 @@ use Rattle.sys_flow.specs.declared.command.Command.TheVariants.{Load, Start, Enq
 use Rattle.r3_model.specs.Language.{Text}
 use Rattle.r3_model.specs.Event.{Event, Run, Turn, Dequeue, ShowStatus, GetRow}
 use Rattle.r3_model.specs.Forms.{and_row, args_at, count_of, drain_line, enqueue_line, fork_line, forms, get_line, id_at, key_at, line_among, line_of, line_or, line_read, load_line, number_at, of_size, one_text, row_from, rows_at, rows_from, rows_of, start_line, text_at}
-use Rattle.r3_model.specs.Generator.{accounts, account, drain_after, drawn, generated, numbers, transfer, transfers}
-use Rattle.r3_model.specs.Script.{Line, Does, Drain, Unread, Unformed}
+use Rattle.r3_model.specs.Generator.{drain_after, drawn, generated, transfers}
+use Rattle.r3_model.specs.Script.{Line, Does, Drain}
 use Rattle.r3_repeats.specs.Steps.{IsOfScript}
 use Rattle.r3_invoked.specs.Left.{AreBegun, before_it, with_it, within_it}
 
@@ -120,18 +119,37 @@ among-kept [] keep d = tt
 among-kept (form ∷ more) keep d = or-kept (form d) (line_among more d) (keep.0 d) (among-kept more keep.1 d)
 
 forms-keep : AllByRecursion Keeps forms
-forms-keep =
-    (sized 2 load_line loads,
-    (sized 3 start_line starts,
-    (sized 4 enqueue_line enqueues,
-    (sized 3 fork_line forks,
-    (sized 2 get_line gets,
-    (sized 1 (one_text (codes "cancel") (λ (id : Text). Run (Cancel id))) (texts (codes "cancel") (λ (id : Text). Run (Cancel id)) (λ s. tt)),
-    (sized 1 (one_text (codes "resume") (λ (id : Text). Run (Resume id))) (texts (codes "resume") (λ (id : Text). Run (Resume id)) (λ s. tt)),
-    (sized 1 (one_text (codes "turn") (λ (id : Text). Turn id)) (texts (codes "turn") (λ (id : Text). Turn id) (λ s. tt)),
-    (sized 1 (one_text (codes "dequeue") (λ (queue : Text). Dequeue queue)) (texts (codes "dequeue") (λ (queue : Text). Dequeue queue) (λ s. tt)),
-    (sized 1 (one_text (codes "status") (λ (id : Text). ShowStatus id)) (texts (codes "status") (λ (id : Text). ShowStatus id) (λ s. tt)),
-    (sized 1 drain_line drains, tt)))))))))))
+forms-keep = (
+  sized 2 load_line loads,
+  (
+    sized 3 start_line starts,
+    (
+      sized 4 enqueue_line enqueues,
+      (
+        sized 3 fork_line forks,
+        (
+          sized 2 get_line gets,
+          (
+            sized 1 (one_text (codes "cancel") (λ (id : Text). Run (Cancel id))) (texts (codes "cancel") (λ (id : Text). Run (Cancel id)) (λ s. tt)),
+            (
+              sized 1 (one_text (codes "resume") (λ (id : Text). Run (Resume id))) (texts (codes "resume") (λ (id : Text). Run (Resume id)) (λ s. tt)),
+              (
+                sized 1 (one_text (codes "turn") (λ (id : Text). Turn id)) (texts (codes "turn") (λ (id : Text). Turn id) (λ s. tt)),
+                (
+                  sized 1 (one_text (codes "dequeue") (λ (queue : Text). Dequeue queue)) (texts (codes "dequeue") (λ (queue : Text). Dequeue queue) (λ s. tt)),
+                  (
+                    sized 1 (one_text (codes "status") (λ (id : Text). ShowStatus id)) (texts (codes "status") (λ (id : Text). ShowStatus id) (λ s. tt)),
+                    (sized 1 drain_line drains, tt),
+                  ),
+                ),
+              ),
+            ),
+          ),
+        ),
+      ),
+    ),
+  ),
+)
 
 read-kept : (o : Option Data) → IsOfScript (line_read o)
 read-kept None = tt
@@ -167,10 +185,6 @@ begun-kept lines line begun all (within_it turns done line_is le is) =
     subst AllKept (sym is) (all-append lines (Drain done ∷ []) (all-first lines (line ∷ []) all) (tt, tt))
 
 -- ---- the generator's lines
-
-numbers-long : (i n : ℕ) → length (numbers i n) ≡ n
-numbers-long i zero = refl
-numbers-long i (suc n) = omega (arith, numbers-long (i + 1) n)
 
 if-kept : (b : Bool) (lines : List Line) → AllKept lines → AllKept (if b then lines else [])
 if-kept true lines all = all

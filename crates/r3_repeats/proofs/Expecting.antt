@@ -1,6 +1,6 @@
 -- On a history that was made no event is answered that a turn is unexpected.
-use Rattle.std.proofs.Common.{◌≡◌, ℕ, ◌+◌, Bool, true, false, List, [], ◌∷◌, length, Option, Some, None, refl, sym, subst, ap, ◌∙◌}
-use Rattle.std.specs.Prelude.{codes, find, not, if◌then◌else◌, nat_le, nat_lt, bytes_eq}
+use Rattle.std.proofs.Common.{◌≡◌, ℕ, ◌+◌, Bool, true, false, List, [], ◌∷◌, length, Option, Some, None, refl}
+use Rattle.std.specs.Prelude.{codes, find, not, if◌then◌else◌, nat_lt, bytes_eq}
 use Rattle.r3_value.specs.declared.value.Outcome.{Outcome}
 use Rattle.r3_value.specs.declared.value.Outcome.TheVariants as outcomes
 use Rattle.r3_value.specs.declared.value.Val.{Val}
@@ -131,7 +131,7 @@ module _ (P : Language) (h : List Entry) where
 
     child-expected : (q : Request) (child : Text) (o : Option FlowRow) → Expected (child_turn P h id q child o)
     child-expected q child None = tt
-    child-expected q child (Some row) = 
+    child-expected q child (Some row) =
         either (bytes_eq row.function q.name)
         (enters P h id (child_entry h id q child (outcomes.Value (vals.Text child)) []))
         (enters P h id (child_entry h id q child (outcomes.Failure (codes "conflict")) [])) tt tt
@@ -179,7 +179,7 @@ module _ (P : Language) (expects : ExpectsAll) (lawful : IsLawful P) where
   given-expected h made (Turn id) snap answer = turned-expected P h id expects lawful made snap answer (flow_at h (length h) id) refl
   given-expected h made (Dequeue queue) snap answer = dequeued-expected P h (find (λ (q : Queue). bytes_eq q.name queue) P.queues)
   given-expected h made (ShowStatus id) snap answer = shown-expected P h id (flow_at h (length h) id)
-  given-expected h made (GetRow table key) snap answer = 
+  given-expected h made (GetRow table key) snap answer =
       either (P.has_table table) (Answers (got (row_at h (length h) table key))) (Answers (Refused refusals.UnknownTable)) (got-expected P h (row_at h (length h) table key)) tt
   given-expected h made Nothing snap answer = tt
 

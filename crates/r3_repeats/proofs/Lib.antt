@@ -13,3 +13,4 @@ mod Expecting
 mod Making
 mod Worked
 mod WorkedStarts
+mod WorkedSteps

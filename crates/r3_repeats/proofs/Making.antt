@@ -1,6 +1,6 @@
 -- What a call leaves of a history that was made was made.
-use Rattle.std.proofs.Common.{◌≡◌, ◌≢◌, ℕ, suc, zero, ◌+◌, ◌-◌, ◌≤◌, ◌^◌, true, false, Bool, List, [], ◌∷◌, ◌++◌, take, drop, length, map, Option, Some, None, refl, sym, subst, ap, ◌∙◌, arith, take-append-drop, length-append}
-use Rattle.std.specs.Prelude.{fold, if◌then◌else◌, nat_lt, slice_get}
+use Rattle.std.proofs.Common.{◌≡◌, ◌≢◌, ℕ, suc, zero, ◌+◌, ◌-◌, ◌≤◌, ◌^◌, true, false, Bool, List, [], ◌∷◌, ◌++◌, take, drop, length, map, Option, Some, None, refl, sym, subst, ap, arith, take-append-drop, length-append}
+use Rattle.std.specs.Prelude.{if◌then◌else◌, nat_lt, slice_get}
 use Rattle.std.specs.List.{AllByRecursion}
 use Rattle.r3_value.specs.declared.value.Outcome.{Outcome}
 use Rattle.r3_entry.specs.declared.entry.Entry.{Entry}
@@ -12,7 +12,7 @@ use Rattle.r3_model.specs.Lawful.{IsLawful}
 use Rattle.r3_model.specs.Event.{Event, Append, Run, Turn, Dequeue, ShowStatus, GetRow, Nothing, Limit, Bytes, Reply, Idle, Spent, NotRead, NotForm}
 use Rattle.r3_model.specs.Event as reply
 use Rattle.r3_model.specs.Laws.{IsOfDrain}
-use Rattle.r3_model.specs.Machine.{State, entered, full_of, first_of}
+use Rattle.r3_model.specs.Machine.{entered, full_of, first_of}
 use Rattle.r3_model.specs.Made.{IsMade}
 use Rattle.r3_model.specs.Run.{Trail, from_state, restarted, next, run, pending_ids}
 use Rattle.r3_model.specs.Drain.{Form, Plain, Drained, round, rounds, drained}
@@ -27,7 +27,7 @@ use Rattle.r3_laws.proofs.Replays.{made-before}
 use Rattle.r3_repeats.specs.Invocations.{Invocation, told_in, GoesByMachine, AreOnOneStore}
 use Rattle.r3_repeats.specs.Steps.{IsOfScript, KeepsLimits, LeavesMade, StoresStepsOnce, IsExpected, ExpectsEachTurn}
 use Rattle.r3_repeats.proofs.Expecting.{stepped-expected}
-use Rattle.r3_repeats.proofs.Growing.{Grows, grows-longer, next-grows, run-grows}
+use Rattle.r3_repeats.proofs.Growing.{grows-longer, next-grows, run-grows}
 use Rattle.r3_repeats.proofs.Placing.{after_lines, answered-grows, begun}
 
 -- ---- the first entry of a store has room

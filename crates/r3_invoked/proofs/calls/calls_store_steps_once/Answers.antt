@@ -1,7 +1,5 @@
-use Rattle.std.proofs.Common.{List, []}
-use Rattle.fn_tree.specs.declared.program.Item.{Item}
+use Rattle.std.proofs.Common.{[]}
 use Rattle.r3_model.specs.Functions.{language_of}
-use Rattle.r3_repeats.specs.Invocations.{Invocation}
 use Rattle.r3_invoked.proofs.Fitting.{on-one_store}
 use Rattle.r3_invoked.proofs.calls.calls_store_steps_once.Goals as goal
 

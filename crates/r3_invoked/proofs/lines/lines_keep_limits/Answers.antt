@@ -1,4 +1,3 @@
-use Rattle.std.proofs.Common.{List}
 use Rattle.r3_model.specs.Generator.{generated}
 use Rattle.r3_serve.specs.Scripted.{script_lines, ended_script_lines}
 use Rattle.r3_invoked.proofs.LinesRead.{begun-kept, done-kept, generated-kept, line-kept, lines-kept}
