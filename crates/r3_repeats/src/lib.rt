@@ -1,5 +1,5 @@
-//! One workflow ID, one reply: laws of the plain machine over events, and over calls on one store with crashes
-//! between and inside them.
+//! One workflow ID, one reply, and each step once: laws of the plain machine over events, and over calls on one
+//! store with crashes between and inside them.
 //!
 //! Each law is the contract of a function that does nothing. A call is seen as the machine's call of `r3_model`
 //! with what it left: all of its history, or the prefix that a crash left, with all that was acknowledged. How a
