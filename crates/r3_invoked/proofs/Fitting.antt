@@ -77,6 +77,13 @@ module _ (P : Language) (text : Text) (h : List Entry) where
       let t = machine [] in
       record { answers = answers_of calls ++ []; history_is = ap (λ (st : State). st.history) t.state; marks_are = t.marks_are }
 
+  -- where no reply is said, and these marks owe all that the calls' do
+  pub left-unsaid : (lines : List Line) (after : State) (calls : List Call) (marks : List Mark) (replies : List Reply) (owes : List Mark) (n m : ℕ) (image : List ℕ)
+      → Calls P text h lines after calls marks replies → owed marks 0 m ≤ owed owes n m → IsHeld after.history (length h) owes n m image → IsLeftBy P text h lines 0 m image
+  left-unsaid lines after calls marks replies owes n m image machine less is =
+      left-by lines after.history marks 0 m is.len image (come-of lines after calls marks replies machine) is.within
+      (held-less (length h) (owed marks 0 m) (owed owes n m) is.len less is.held_kept) is.history_of
+
   -- the marks of the replies count their bytes
   counts : (lines : List Line) (after : State) (calls : List Call) (marks : List Mark) (replies : List Reply) → Calls P text h lines after calls marks replies → said_by marks ≡ length (said_of Loud replies)
   counts lines after calls marks replies machine =

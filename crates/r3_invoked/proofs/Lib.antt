@@ -1,3 +1,4 @@
 mod Owed
 mod Fitting
 mod Told
+mod LinesRead

@@ -1,25 +1,32 @@
 //! The program's calls, as calls on one store.
 
-ghost use Rattle.std.specs.Prelude.{◌≡◌, ◌-◌, ℕ, List, [], Some, ◌⊎◌, length};
+ghost use Rattle.std.specs.Prelude.{◌≡◌, ◌-◌, ◌++◌, ◌∷◌, ℕ, List, [], Some, ◌⊎◌, length, slice_get};
+ghost use Rattle.std.specs.List.{AllByRecursion};
+ghost use Rattle.fn_tree.specs.declared.program.Item.{Item};
 ghost use Rattle.r3_desk.specs.Crash.{LeavesOnly};
 ghost use Rattle.r3_desk.specs.Disk.{told_len};
 ghost use Rattle.r3_entry.specs.declared.entry.Entry.{Entry};
 ghost use Rattle.r3_entry.specs.Image.{IsHistoryOf};
 ghost use Rattle.r3_model.specs.Event.{Call, Reply};
-ghost use Rattle.r3_model.specs.Held.{Mark};
+ghost use Rattle.r3_model.specs.Functions.{language_of};
+ghost use Rattle.r3_model.specs.Held.{Mark, Said};
 ghost use Rattle.r3_model.specs.Language.{Language, Text};
 ghost use Rattle.r3_model.specs.Machine.{State};
+ghost use Rattle.r3_model.specs.Made.{IsMade};
 ghost use Rattle.r3_model.specs.Script.{Line as L};
 ghost use Rattle.r3_exec.specs.Runs.{language};
 ghost use Rattle.r3_exec.specs.declared.exec.Exec.{Exec};
 ghost use Rattle.r3_session.specs.Begun.{StopsOpening};
-ghost use Rattle.r3_serve.specs.Held.{IsHeld};
+ghost use Rattle.r3_serve.specs.Held.{IsHeld, asked_marks};
 ghost use Rattle.r3_serve.specs.Served.{Calls, Voice, Served, Stopped};
-ghost use Rattle.r3_repeats.specs.Invocations.{Invocation, AreOnOneStore};
+ghost use Rattle.r3_repeats.specs.Invocations.{Invocation, AreOnOneStore, told_in};
+ghost use Rattle.r3_repeats.specs.Steps.{HasStepsOnce, IsExpected, KeepsLimits};
 ghost use Rattle.r3_invoked.specs.Left.{AreBegun, AreOnOneDisk, IsAllOf, IsLeftBy, bytes_of};
 
 use r3_desk::Desk;
 use r3_entry::one_history;
+use r3_laws::programs_are_lawful;
+use r3_repeats::stores_steps_once;
 use r3_store::reads_as_settled;
 
 /// A call of the program goes by the machine: one that answered its lines, at its end and at any moment
@@ -59,6 +66,17 @@ pub fn calls_fit<D: Desk>()
         (marks : List Mark) (replies : List Reply) (n m : ℕ) (image : List ℕ) →
         Calls P text h lines after calls marks replies → IsHeld after.history (length h) marks n m image →
         IsLeftBy P text h lines n m image }
+
+    // And so does one whose replies aren't said, as the generator tells it of its own, without its summary and with it.
+    ensures unsaid { (P : Language) (text : Text) (h : List Entry) (lines : List L) (after : State) (calls : List Call)
+        (marks : List Mark) (replies : List Reply) (n m : ℕ) (image : List ℕ) →
+        Calls P text h lines after calls marks replies → IsHeld after.history (length h) (asked_marks marks) n m image →
+        IsLeftBy P text h lines 0 m image }
+    ensures summary { (P : Language) (text : Text) (h : List Entry) (lines : List L) (after : State) (calls : List Call)
+        (marks : List Mark) (replies : List Reply) (bytes kept n m : ℕ) (image : List ℕ) →
+        Calls P text h lines after calls marks replies →
+        IsHeld after.history (length h) (asked_marks marks ++ Said bytes kept ∷ []) n m image →
+        IsLeftBy P text h lines 0 m image }
 {
     reads_as_settled::<D>();
 }
@@ -69,4 +87,24 @@ pub fn calls_are_on_one_store()
         IsHistoryOf h image → AreOnOneDisk P image calls → AreOnOneStore P h calls }
 {
     one_history();
+}
+
+/// So what the program's calls leave of a store that began empty is what it made, whatever crashes: each step is stored
+/// once, one of a transaction with its body's writes, and no turn is unexpected.
+pub fn calls_store_steps_once()
+    ensures made { (items : List Item) (image : List ℕ) (calls : List Invocation) (a : ℕ) (i : Invocation) →
+        IsHistoryOf [] image → AreOnOneDisk (language_of items) image calls → AllByRecursion KeepsLimits calls →
+        slice_get calls a ≡ Some i → IsMade (language_of items) i.left }
+    ensures once { (items : List Item) (image : List ℕ) (calls : List Invocation) (a : ℕ) (i : Invocation) →
+        IsHistoryOf [] image → AreOnOneDisk (language_of items) image calls → AllByRecursion KeepsLimits calls →
+        slice_get calls a ≡ Some i → HasStepsOnce (language_of items) i.left }
+    ensures expects { (items : List Item) (image : List ℕ) (calls : List Invocation) (a : ℕ) (i : Invocation) →
+        IsHistoryOf [] image → AreOnOneDisk (language_of items) image calls → AllByRecursion KeepsLimits calls →
+        slice_get calls a ≡ Some i →
+        AllByRecursion IsExpected (told_in (language_of items) i).said
+        × AllByRecursion IsExpected (told_in (language_of items) i).trail.replies }
+{
+    one_history();
+    stores_steps_once();
+    programs_are_lawful();
 }

@@ -9,5 +9,8 @@ mod Telling
 pub mod Placing
 pub mod Holding
 mod Storing
+mod Expecting
+mod Making
 mod Worked
 mod WorkedStarts
+mod WorkedSteps

@@ -3,6 +3,7 @@
 use Rattle.std.proofs.Common.{◌≡◌, List, [], ◌∷◌, take, length, Some, None, refl, arith}
 use Rattle.std.specs.Prelude.{codes, bytes_eq, false, if◌then◌else◌, flat_map}
 use Rattle.std.specs.Fmt.{digits}
+use Rattle.std.specs.List.{AllByRecursion}
 use Rattle.serde_json.proofs.OnLiterals.{serde_json_on_literals}
 use Rattle.r3_value.specs.Value as value
 use Rattle.r3_value.specs.declared.value.Val.{Val}
@@ -21,6 +22,7 @@ use Rattle.r3_model.specs.Acts.{program_entry, start_entry, finish_entry, starte
 use Rattle.r3_model.specs.Script.{Does, held_by}
 use Rattle.r3_repeats.specs.Invocations.{Invocation, told_in, GoesByMachine, AreOnOneStore, IsAcknowledged, acknowledged}
 use Rattle.r3_repeats.specs.Laws.{AreLines}
+use Rattle.r3_repeats.specs.Steps.{KeepsLimits}
 
 -- two workflows, which end at once
 unfoldable pub tiny : Language
@@ -153,3 +155,9 @@ results = record {
   replied' = record { line_is = refl; reply_is = refl };
   outlives = acknowledged (omega arith) third-acknowledged;
 }
+
+limits : AllByRecursion KeepsLimits (cut ∷ again ∷ [])
+limits = (
+  record { text = omega arith; lines = (tt, (tt, (tt, (tt, tt)))) },
+  (record { text = omega arith; lines = (tt, (tt, tt)) }, tt),
+)

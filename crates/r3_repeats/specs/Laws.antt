@@ -91,7 +91,7 @@ pub record AreLines (P : Language) (first : List Entry) (calls : List Invocation
   pub replied' : Replied P late l line' reply'
   pub outlives : Outlives P early a k b l
 
--- all accepted replies to starts, enqueues and forks of one ID are the same
+-- one ID has one reply: each start, enqueue or fork of it that is accepted gets the same
 abbrev pub RepeatsAreAlike : Type 0
 RepeatsAreAlike = (P : Language) (first : List Entry) (calls : List Invocation) (one two : Command) (n m : ℕ) (id : Text)
     → IsTrue (is_start one) → IsTrue (is_start two)

@@ -1,14 +1,17 @@
-use Rattle.std.proofs.Common.{ℕ, ◌-◌, ◌≤◌, ◌++◌, ⊎_elim, subst, length, List, arith}
+use Rattle.std.proofs.Common.{ℕ, ◌-◌, ◌≤◌, ◌++◌, ⊎_elim, subst, length, List, [], ◌∷◌, arith}
 use Rattle.std.proofs.Math.Seq.{take-length}
 use Rattle.r3_entry.specs.declared.entry.Entry.{Entry}
 use Rattle.r3_entry.specs.Image.{IsHistoryOf}
 use Rattle.r3_desk.specs.Disk.{told_len}
 use Rattle.r3_recover.specs.Kept.{marks_on}
+use Rattle.r3_model.specs.Held.{Mark, Said}
+use Rattle.r3_serve.specs.Held.{asked_marks}
 use Rattle.r3_exec.specs.Runs.{language}
 use Rattle.r3_serve.specs.Served.{said_of}
 use Rattle.r3_invoked.specs.Left.{bytes_of}
+use Rattle.r3_invoked.proofs.Owed.{owed-fewer, owed-quiet}
 use Rattle.r3_invoked.proofs.Told.{asked-most, said-most}
-use Rattle.r3_invoked.proofs.Fitting.{all-of, bytes-most, bytes-whole, bytes-within, come-of, held-voice, left-by, opening-left, said-voice, stopped-left, stopped-read}
+use Rattle.r3_invoked.proofs.Fitting.{all-of, bytes-most, bytes-whole, bytes-within, come-of, held-voice, left-by, left-unsaid, opening-left, said-voice, stopped-left, stopped-read}
 use Rattle.r3_invoked.proofs.calls.calls_fit.Goals as goal
 
 pub returns-clause-ends : goal.returns-clause-ends
@@ -84,3 +87,13 @@ returns-clause-answered g c = λ P text h lines after calls marks replies n m im
 pub returns-clause-held : goal.returns-clause-held
 returns-clause-held g c = λ P text h lines after calls marks replies n m image machine held_is.
     left-by P text h lines after.history marks n m held_is.len image (come-of P text h lines after calls marks replies machine) held_is.within held_is.held_kept held_is.history_of
+
+pub returns-clause-unsaid : goal.returns-clause-unsaid
+returns-clause-unsaid g c = λ P text h lines after calls marks replies n m image machine is.
+    left-unsaid P text h lines after calls marks replies (asked_marks marks) n m image machine (owed-quiet marks n m) is
+
+pub returns-clause-summary : goal.returns-clause-summary
+returns-clause-summary g c = λ P text h lines after calls marks replies bytes kept n m image machine is.
+    let summary : List Mark = Said bytes kept ∷ [] in
+    left-unsaid P text h lines after calls marks replies (asked_marks marks ++ summary) n m image machine
+    (omega (arith, owed-quiet marks n m, owed-fewer (asked_marks marks) summary n m)) is
