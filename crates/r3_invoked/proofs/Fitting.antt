@@ -5,8 +5,10 @@ use Rattle.std.proofs.Math.Nat.{max-le}
 use Rattle.std.proofs.lemmas.List.{append_assoc, append-nil, take-append-le}
 use Rattle.std.proofs.lemmas.List.Sums.{fold-append}
 use Rattle.r3_value.specs.declared.value.Outcome.{Outcome}
+use Rattle.fn_tree.specs.declared.program.Item.{Item}
 use Rattle.r3_entry.specs.declared.entry.Entry.{Entry}
 use Rattle.r3_entry.specs.Image.{IsHistoryOf}
+use Rattle.r3_model.specs.Functions.{language_of}
 use Rattle.r3_model.specs.Language.{Text, Language}
 use Rattle.sys_flow.specs.declared.command.Command.TheVariants.{Recover}
 use Rattle.r3_model.specs.Event.{Run, Reply, Call}
@@ -23,10 +25,11 @@ use Rattle.r3_session.specs.Answered.{AnswersTo, IsPart}
 use Rattle.r3_serve.specs.Held.{IsHeld, asked_marks}
 use Rattle.r3_serve.specs.Served.{Voice, Loud, Quiet, said_of, marks_of, Calls, IsSaid}
 use Rattle.r3_repeats.specs.Invocations.{Invocation, IsWhole, AreOnOneStore}
+use Rattle.r3_repeats.specs.Steps.{IsOneOnStore}
 use Rattle.r3_repeats.proofs.Placing.{begun, Counted, lines-counted, begun-counted}
 use Rattle.r3_repeats.proofs.Holding.{called-grows, whole-goes}
 use Rattle.r3_repeats.proofs.Growing.{Grows, grows-longer}
-use Rattle.r3_invoked.specs.Left.{bytes_of, IsLeftBy, IsAllOf, AreBegun, before_it, with_it, within_it, AreOnOneDisk}
+use Rattle.r3_invoked.specs.Left.{bytes_of, IsLeftBy, IsAllOf, AreBegun, before_it, with_it, within_it, AreOnOneDisk, IsOneOnDisk}
 use Rattle.r3_invoked.proofs.Owed.{owed-fewer, owed-unsaid, owed-lower, owed-quiet, held-less, said-more}
 
 module _ (P : Language) (text : Text) (h : List Entry) where
@@ -309,3 +312,14 @@ pub on-one_store : ((image : List ℕ) (h k : List Entry) → IsHistoryOf h imag
 on-one_store one P image h [] is all = tt
 on-one_store one P image h (i ∷ is) first all =
     (one image i.before h all.0 first, all.1, on-one_store one P all.2 i.left is all.3 all.4)
+
+pub one-on_store : ((image : List ℕ) (h k : List Entry) → IsHistoryOf h image → IsHistoryOf k image → h ≡ k) → (items : List Item) (i : Invocation) → IsOneOnDisk items i → IsOneOnStore (language_of items) i
+one-on_store one items i call = record {
+  first = [];
+  made = tt;
+  calls = call.calls;
+  on_store = on-one_store one (language_of items) call.image [] call.calls call.empty call.on_disk;
+  limits = call.limits;
+  place = call.place;
+  is = call.is;
+}

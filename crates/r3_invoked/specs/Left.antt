@@ -1,11 +1,15 @@
 -- What a call has left on the disk, and calls one after another on it.
-use Rattle.std.specs.Prelude.{◌≡◌, ℕ, ◌≤◌, List, [], ◌∷◌, ◌++◌, ⊤}
+use Rattle.std.specs.Prelude.{◌≡◌, ℕ, ◌≤◌, List, [], ◌∷◌, ◌++◌, slice_get, Some, ⊤}
+use Rattle.std.specs.List.{AllByRecursion}
+use Rattle.fn_tree.specs.declared.program.Item.{Item}
 use Rattle.r3_entry.specs.declared.entry.Entry.{Entry}
 use Rattle.r3_entry.specs.Image.{IsHistoryOf}
+use Rattle.r3_model.specs.Functions.{language_of}
 use Rattle.r3_model.specs.Language.{Text, Language}
 use Rattle.r3_model.specs.Script.{Line, Drain}
 use Rattle.r3_serve.specs.Served.{Voice, Loud, Quiet}
 use Rattle.r3_repeats.specs.Invocations.{Invocation, GoesByMachine, IsWhole}
+use Rattle.r3_repeats.specs.Steps.{KeepsLimits}
 
 -- how many of the bytes said are of replies: none where the replies aren't said
 abbrev pub bytes_of : Voice → ℕ → ℕ
@@ -40,3 +44,13 @@ abbrev pub AreOnOneDisk : Language → List ℕ → List Invocation → Type 0
 AreOnOneDisk P image [] = ⊤
 AreOnOneDisk P image (i ∷ is) =
     IsHistoryOf i.before image × GoesByMachine P i × (next : List ℕ) × IsHistoryOf i.left next × AreOnOneDisk P next is
+
+-- One of the program's calls on a disk that began empty, each with lines as they are read.
+pub record IsOneOnDisk (items : List Item) (i : Invocation) : Type 0 where
+  pub image : List ℕ
+  pub empty : IsHistoryOf [] image
+  pub calls : List Invocation
+  pub on_disk : AreOnOneDisk (language_of items) image calls
+  pub limits : AllByRecursion KeepsLimits calls
+  pub place : ℕ
+  pub is : slice_get calls place ≡ Some i

@@ -1,6 +1,6 @@
 //! The program's calls, as calls on one store.
 
-ghost use Rattle.std.specs.Prelude.{◌≡◌, ◌-◌, ◌++◌, ◌∷◌, ℕ, List, [], Some, ◌⊎◌, length, slice_get};
+ghost use Rattle.std.specs.Prelude.{◌≡◌, ◌-◌, ◌++◌, ◌∷◌, ℕ, List, [], Some, ◌⊎◌, length};
 ghost use Rattle.std.specs.List.{AllByRecursion};
 ghost use Rattle.fn_tree.specs.declared.program.Item.{Item};
 ghost use Rattle.r3_desk.specs.Crash.{LeavesOnly};
@@ -20,8 +20,8 @@ ghost use Rattle.r3_session.specs.Begun.{StopsOpening};
 ghost use Rattle.r3_serve.specs.Held.{IsHeld, asked_marks};
 ghost use Rattle.r3_serve.specs.Served.{Calls, Voice, Served, Stopped};
 ghost use Rattle.r3_repeats.specs.Invocations.{Invocation, AreOnOneStore, told_in};
-ghost use Rattle.r3_repeats.specs.Steps.{HasStepsOnce, IsExpected, KeepsLimits};
-ghost use Rattle.r3_invoked.specs.Left.{AreBegun, AreOnOneDisk, IsAllOf, IsLeftBy, bytes_of};
+ghost use Rattle.r3_repeats.specs.Steps.{HasStepsOnce, IsExpected};
+ghost use Rattle.r3_invoked.specs.Left.{AreBegun, AreOnOneDisk, IsAllOf, IsLeftBy, IsOneOnDisk, bytes_of};
 
 use r3_desk::Desk;
 use r3_entry::one_history;
@@ -92,15 +92,9 @@ pub fn calls_are_on_one_store()
 /// So what the program's calls leave of a store that began empty is what it made, whatever crashes: each step is stored
 /// once, one of a transaction with its body's writes, and no turn is unexpected.
 pub fn calls_store_steps_once()
-    ensures made { (items : List Item) (image : List ℕ) (calls : List Invocation) (a : ℕ) (i : Invocation) →
-        IsHistoryOf [] image → AreOnOneDisk (language_of items) image calls → AllByRecursion KeepsLimits calls →
-        slice_get calls a ≡ Some i → IsMade (language_of items) i.left }
-    ensures once { (items : List Item) (image : List ℕ) (calls : List Invocation) (a : ℕ) (i : Invocation) →
-        IsHistoryOf [] image → AreOnOneDisk (language_of items) image calls → AllByRecursion KeepsLimits calls →
-        slice_get calls a ≡ Some i → HasStepsOnce (language_of items) i.left }
-    ensures expects { (items : List Item) (image : List ℕ) (calls : List Invocation) (a : ℕ) (i : Invocation) →
-        IsHistoryOf [] image → AreOnOneDisk (language_of items) image calls → AllByRecursion KeepsLimits calls →
-        slice_get calls a ≡ Some i →
+    ensures made { (items : List Item) (i : Invocation) → IsOneOnDisk items i → IsMade (language_of items) i.left }
+    ensures once { (items : List Item) (i : Invocation) → IsOneOnDisk items i → HasStepsOnce (language_of items) i.left }
+    ensures expects { (items : List Item) (i : Invocation) → IsOneOnDisk items i →
         AllByRecursion IsExpected (told_in (language_of items) i).said
         × AllByRecursion IsExpected (told_in (language_of items) i).trail.replies }
 {

@@ -14,10 +14,13 @@ ghost use Rattle.r3_invoked.specs.Left.{AreBegun};
 /// generator's lines, and what of them a call had begun.
 pub fn lines_keep_limits()
     ensures line { (bytes : Text) → IsOfScript (line_of bytes) }
-    ensures script { (script : Text) (done later : List L) → script_lines script ≡ done ++ later → AllByRecursion IsOfScript done }
-    ensures ended { (bytes : Text) (done later : List L) → ended_script_lines bytes ≡ done ++ later → AllByRecursion IsOfScript done }
+    ensures script { (script : Text) (done later : List L) →
+        script_lines script ≡ done ++ later → AllByRecursion IsOfScript done }
+    ensures ended { (bytes : Text) (done later : List L) →
+        ended_script_lines bytes ≡ done ++ later → AllByRecursion IsOfScript done }
     ensures drain { (turns : ℕ) → AllByRecursion IsOfScript (Drain turns ∷ []) }
-    ensures generated { (number count : ℕ) (done later : List L) → generated number count ≡ done ++ later → AllByRecursion IsOfScript done }
+    ensures generated { (number count : ℕ) (done later : List L) →
+        generated number count ≡ done ++ later → AllByRecursion IsOfScript done }
     ensures begun { (lines : List L) (line : L) (begun : List L) →
         AllByRecursion IsOfScript (lines ++ line ∷ []) → AreBegun lines line begun → AllByRecursion IsOfScript begun }
 {}

@@ -25,7 +25,7 @@ use Rattle.r3_laws.proofs.KeepsOpen.{stepped-open}
 use Rattle.r3_laws.proofs.Reaches.{stepped-made, restarted-open}
 use Rattle.r3_laws.proofs.Replays.{made-before}
 use Rattle.r3_repeats.specs.Invocations.{Invocation, told_in, GoesByMachine, AreOnOneStore}
-use Rattle.r3_repeats.specs.Steps.{IsOfScript, KeepsLimits, LeavesMade, StoresStepsOnce, IsExpected, ExpectsEachTurn}
+use Rattle.r3_repeats.specs.Steps.{IsOfScript, KeepsLimits, IsOneOnStore, LeavesMade, StoresStepsOnce, IsExpected, ExpectsEachTurn}
 use Rattle.r3_repeats.proofs.Expecting.{stepped-expected}
 use Rattle.r3_repeats.proofs.Growing.{grows-longer, next-grows, run-grows}
 use Rattle.r3_repeats.proofs.Placing.{after_lines, answered-grows, begun}
@@ -201,18 +201,21 @@ module _ (P : Language) where
       let Of : List Entry → Type 0 = λ g. IsMade P g in
       begins-made x.left xs a i (call-made x are.1 limits.0 (subst Of (sym are.0) made)) are.2 limits.1 is
 
+  one-made : (i : Invocation) (one : IsOneOnStore P i) → IsMade P i.before × GoesByMachine P i × KeepsLimits i
+  one-made i one = begins-made one.first one.calls one.place i one.made one.on_store one.limits one.is
+
 pub leaves-made : LeavesMade
-leaves-made P h calls a i made are limits is =
-    let b = begins-made P h calls a i made are limits is in
+leaves-made P i one =
+    let b = one-made P i one in
     call-made P i b.1 b.2 b.0
 
 pub stores-once : CommitsOnce → StoresStepsOnce
-stores-once law P h calls a i lawful made are limits is =
-    let once = law P i.left lawful (leaves-made P h calls a i made are limits is) in
+stores-once law P i lawful one =
+    let once = law P i.left lawful (leaves-made P i one) in
     record { once = once.0; with_writes = once.1 }
 
 pub expects-turns : ExpectsAll → ExpectsEachTurn
-expects-turns law P h calls a i lawful made are limits is =
-    let b = begins-made P h calls a i made are limits is in
+expects-turns law P i lawful one =
+    let b = one-made P i one in
     let good : GoodTold P (told_in P i) = called-good P i b.2 b.0 in
     (good.said law lawful, (good.trail.expects law lawful).0)

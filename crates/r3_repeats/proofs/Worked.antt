@@ -22,7 +22,7 @@ use Rattle.r3_model.specs.Acts.{program_entry, start_entry, finish_entry, starte
 use Rattle.r3_model.specs.Script.{Does, held_by}
 use Rattle.r3_repeats.specs.Invocations.{Invocation, told_in, GoesByMachine, AreOnOneStore, IsAcknowledged, acknowledged}
 use Rattle.r3_repeats.specs.Laws.{AreLines}
-use Rattle.r3_repeats.specs.Steps.{KeepsLimits}
+use Rattle.r3_repeats.specs.Steps.{KeepsLimits, IsOneOnStore}
 
 -- two workflows, which end at once
 unfoldable pub tiny : Language
@@ -161,3 +161,6 @@ limits = (
   record { text = omega arith; lines = (tt, (tt, (tt, (tt, tt)))) },
   (record { text = omega arith; lines = (tt, (tt, tt)) }, tt),
 )
+
+one_on_store : IsOneOnStore tiny again
+one_on_store = record { first = []; made = tt; calls = cut ∷ again ∷ []; on_store = on_store; limits = limits; place = 1; is = refl }

@@ -27,6 +27,16 @@ pub record KeepsLimits (i : Invocation) : Type 0 where
   pub text : length i.text ≤ 2 ^ 20
   pub lines : AllByRecursion IsOfScript i.lines
 
+-- one of the calls on a store whose first history was made: so on any that began empty
+pub record IsOneOnStore (P : Language) (i : Invocation) : Type 0 where
+  pub first : List Entry
+  pub made : IsMade P first
+  pub calls : List Invocation
+  pub on_store : AreOnOneStore P first calls
+  pub limits : AllByRecursion KeepsLimits calls
+  pub place : ℕ
+  pub is : slice_get calls place ≡ Some i
+
 -- ---- what they leave
 
 -- each step was written once, and one of a transaction with its body's writes, or it was copied by a fork
@@ -36,17 +46,13 @@ pub record HasStepsOnce (P : Language) (h : List Entry) : Type 0 where
       → slice_get h k ≡ Some e → slice_get e.writes j ≡ Some (step_write id n r) → r.kind ≡ kinds.Txn
       → Commits P (take k h) e id n r ⊎ Copies (take k h) e id n r
 
--- what is left of a store that was made was made, whatever crashes
+-- what a call leaves was made, whatever crashes
 abbrev pub LeavesMade : Type 0
-LeavesMade = (P : Language) (first : List Entry) (calls : List Invocation) (a : ℕ) (i : Invocation)
-    → IsMade P first → AreOnOneStore P first calls → AllByRecursion KeepsLimits calls → slice_get calls a ≡ Some i
-    → IsMade P i.left
+LeavesMade = (P : Language) (i : Invocation) → IsOneOnStore P i → IsMade P i.left
 
 -- so no step is ever stored twice
 abbrev pub StoresStepsOnce : Type 0
-StoresStepsOnce = (P : Language) (first : List Entry) (calls : List Invocation) (a : ℕ) (i : Invocation)
-    → IsLawful P → IsMade P first → AreOnOneStore P first calls → AllByRecursion KeepsLimits calls → slice_get calls a ≡ Some i
-    → HasStepsOnce P i.left
+StoresStepsOnce = (P : Language) (i : Invocation) → IsLawful P → IsOneOnStore P i → HasStepsOnce P i.left
 
 -- ---- what they answer
 
@@ -57,6 +63,5 @@ IsExpected r = ⊤
 
 -- nothing in a call is answered so: no line, and no turn of a drain
 abbrev pub ExpectsEachTurn : Type 0
-ExpectsEachTurn = (P : Language) (first : List Entry) (calls : List Invocation) (a : ℕ) (i : Invocation)
-    → IsLawful P → IsMade P first → AreOnOneStore P first calls → AllByRecursion KeepsLimits calls → slice_get calls a ≡ Some i
+ExpectsEachTurn = (P : Language) (i : Invocation) → IsLawful P → IsOneOnStore P i
     → AllByRecursion IsExpected (told_in P i).said × AllByRecursion IsExpected (told_in P i).trail.replies
