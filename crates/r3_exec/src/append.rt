@@ -7,12 +7,12 @@ ghost use Rattle.r3_desk.specs.Moments.{LeavesImage};
 ghost use Rattle.r3_entry.specs.Image.{IsHistoryOf};
 ghost use Rattle.r3_model.specs.Machine.{State};
 ghost use Rattle.r3_model.specs.Event.{Run};
+ghost use Rattle.r3_model.specs.Fits.{IsFit};
 ghost use Rattle.r3_exec.specs.Discards.{DiscardsWhenDue};
 ghost use Rattle.r3_exec.specs.Runs.{Runs, language};
 ghost use Rattle.r3_exec.specs.Does.{Does, IsRead, Leaves};
 ghost use Rattle.r3_exec.specs.Ends.{command_reply};
 ghost use Rattle.r3_exec.specs.Entered.{HasNumber, reply_after};
-ghost use Rattle.r3_exec.specs.Fit.{IsGiven};
 ghost use Rattle.r3_entry.specs.declared.entry.Entry.{Entry as E};
 ghost use Rattle.r3_store.specs.Holds.{Stands as StoreStands};
 ghost use Rattle.r3_model.specs.Commands.{commanded};
@@ -50,7 +50,7 @@ impl Exec {
         id: Option<Txt>,
     ) -> Result<CommandEnd, ExecFault>
         requires drafted { (h : List E) → StoreStands self.old.store h → given_of (length h) (Draft.Enters entry id) ≡ commanded (language self.old) h command.now }
-        requires given { IsGiven command.now }
+        requires given { IsFit command.now }
         requires runs { (st : State) × (k : ℕ) × Runs D.size D.image D.may_leave desk.old self.old st k }
         ensures does { (st : State) (k : ℕ) → Runs D.size D.image D.may_leave desk.old self.old st k →
             IfOk result (λ end. Does D.size D.image D.may_leave D.asked D.syncs desk.old desk.new self.new st k (Run command.now) (command_reply end)) }
@@ -79,8 +79,6 @@ impl Exec {
         ensures said { D.said desk.new ≡ D.said desk.old }
         ensures say_faults { D.say_faults desk.new ≡ D.say_faults desk.old }
     {
-        self.program.holds_values();
-        self.program.program();
         match self.enter(alloc, desk, entry) {
             Ok(entered) => Ok(command_end(entered, id)),
             Err(fault) => Err(fault),
@@ -98,7 +96,7 @@ impl Exec {
         desk: &mut D,
         command: &Command,
     ) -> Result<CommandEnd, ExecFault>
-        requires given { IsGiven command.now }
+        requires given { IsFit command.now }
         requires runs { (st : State) × (k : ℕ) × Runs D.size D.image D.may_leave desk.old self.old st k }
         ensures does { (st : State) (k : ℕ) → Runs D.size D.image D.may_leave desk.old self.old st k →
             IfOk result (λ end. Does D.size D.image D.may_leave D.asked D.syncs desk.old desk.new self.new st k (Run command.now) (command_reply end)) }

@@ -1,8 +1,6 @@
 use Rattle.std.proofs.Common.{◌+◌, length, None, sym, refl}
 use Rattle.r3_model.specs.Event.{Run}
-use Rattle.r3_model.specs.Language.{Text}
 use Rattle.r3_commands.specs.Drafts.{reply_of}
-use Rattle.r3_laws.proofs.NamedItems.{all-named, table-named}
 use Rattle.r3_exec.specs.Runs.{language}
 use Rattle.r3_exec.proofs.Commanding.{gives}
 use Rattle.r3_exec.proofs.Doing.{by_entry}
@@ -12,7 +10,6 @@ use Rattle.r3_exec.proofs.exec.Exec.enter_command.Goals as goal
 pub enter-requires : goal.enter-requires
 enter-requires g c =
     let x = c.requires.runs in
-    let items = c.args.self.now.program in
     let r = reply_of (length x.0.history + 1) c.args.id in
     record {
       gives = (
@@ -23,17 +20,14 @@ enter-requires g c =
         r,
         x.2,
         gives (language c.args.self.now) x.0 c.args.command.now c.args.entry r
-            (λ (t : Text). table-named items (all-named items c.program.ensures.sound c.holds_values.ensures) t)
             x.2.stands.valid c.requires.given (sym (c.requires.drafted x.0.history x.2.stands.keeps.store)),
       );
     }
 
 pub returns-in-Ok-clause-does : goal.returns-in-Ok-clause-does
 returns-in-Ok-clause-does g c = λ st k runs.
-    let items = c.args.self.now.program in
     let r = reply_of (length st.history + 1) c.args.id in
     let does = gives (language c.args.self.now) st c.args.command.now c.args.entry r
-    (λ (t : Text). table-named items (all-named items c.program.ensures.sound c.holds_values.ensures) t)
     runs.stands.valid c.requires.given (sym (c.requires.drafted st.history runs.stands.keeps.store)) in
     let come = c.in-Ok.ensures.come st k (Run c.args.command.now) None r runs does in
     by_entry g.D.Desk.size g.D.Desk.image g.D.Desk.may_leave g.D.Desk.asked g.D.Desk.syncs _ _ c.args.self.now c.enter.new.self st k (Run c.args.command.now) None c.args.entry r c.in-Ok.entered _
