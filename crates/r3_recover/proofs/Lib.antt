@@ -8,5 +8,6 @@ mod There
 mod Starts
 mod Turning
 mod Taking
+mod Failing
 mod FirstEntry
 mod Openings

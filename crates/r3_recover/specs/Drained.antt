@@ -1,5 +1,5 @@
 -- A drain, done on a desk.
-use Rattle.std.specs.Prelude.{◌≡◌, ◌⊎◌, ℕ, suc, zero, ◌+◌, ◌*◌, ◌<◌, ◌≤◌, List, [], ◌++◌, length, map, Option}
+use Rattle.std.specs.Prelude.{◌≡◌, ◌⊎◌, ℕ, suc, zero, ◌+◌, ◌*◌, ◌<◌, ◌≤◌, List, [], ◌∷◌, ◌++◌, length, map, Option, Some, None}
 use Rattle.std.specs.Option.{ForSome}
 use Rattle.r3_value.specs.declared.value.Outcome.{Outcome}
 use Rattle.r3_desk.specs.Asked as desk
@@ -82,3 +82,18 @@ pub record EndsEarly {D : Type 0} (told_image : D → Option (List ℕ)) (moment
 abbrev pub Raised : ℕ → ℕ → ℕ → Type 0
 Raised zero before now = now ≡ before
 Raised (suc n) before now = (between : ℕ) × Raised n before between × Rose between now
+
+-- how many of the calls got no answer
+abbrev pub no_answer : Option Outcome → ℕ
+no_answer None = 1
+no_answer (Some outcome) = 0
+
+abbrev pub unanswered : List Call → ℕ
+unanswered [] = 0
+unanswered (c ∷ calls) = no_answer c.answer + unanswered calls
+
+-- These calls were asked, and the outside's count of faults rose once for each that got no answer.
+pub record CountsFaults {D : Type 0} (asked : D → Option (List desk.Call)) (ask_faults : D → ℕ) (old new : D) : Type 0 where
+  pub calls : List Call
+  pub told : asked new ≡ told_after (asked old) calls
+  pub raised : Raised (unanswered calls) (ask_faults old) (ask_faults new)

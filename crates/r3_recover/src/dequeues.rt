@@ -54,6 +54,7 @@ fn dequeue_next<D: Desk>(
     ensures syncs { D.syncs desk.new ≡ D.syncs desk.old }
     ensures disk { IsErrOf result ExecFault.Disk → Rose (D.disk_faults desk.old) (D.disk_faults desk.new) }
     ensures no_fault { (IsErrOf result ExecFault.Disk → ⊥) → D.disk_faults desk.new ≡ D.disk_faults desk.old }
+    ensures asked { D.asked desk.new ≡ D.asked desk.old }
     ensures ask_faults { D.ask_faults desk.new ≡ D.ask_faults desk.old }
     ensures said { D.said desk.new ≡ D.said desk.old }
     ensures say_faults { D.say_faults desk.new ≡ D.say_faults desk.old }
@@ -95,6 +96,7 @@ pub fn dequeue_each<D: Desk>(
     ensures syncs { D.syncs desk.new ≡ D.syncs desk.old }
     ensures disk { IsErrOf result ExecFault.Disk → Rose (D.disk_faults desk.old) (D.disk_faults desk.new) }
     ensures no_fault { (IsErrOf result ExecFault.Disk → ⊥) → D.disk_faults desk.new ≡ D.disk_faults desk.old }
+    ensures asked { D.asked desk.new ≡ D.asked desk.old }
     ensures ask_faults { D.ask_faults desk.new ≡ D.ask_faults desk.old }
     ensures said { D.said desk.new ≡ D.said desk.old }
     ensures say_faults { D.say_faults desk.new ≡ D.say_faults desk.old }

@@ -6,7 +6,7 @@ ghost use Rattle.r3_model.specs.Language.{Queue};
 ghost use Rattle.r3_model.specs.Machine.{State};
 ghost use Rattle.r3_exec.specs.Does.{SyncsWithin};
 ghost use Rattle.r3_exec.specs.Runs.{Runs, language};
-ghost use Rattle.r3_recover.specs.Drained.{DoesDrain, EndsEarly, Raised};
+ghost use Rattle.r3_recover.specs.Drained.{CountsFaults, DoesDrain, EndsEarly, Raised};
 ghost use Rattle.r3_recover.specs.Ends.{drain_reply};
 ghost use Rattle.r3_recover.specs.Rounds.{Point, Queues};
 
@@ -53,6 +53,7 @@ fn give_turns<D: Desk, L: Ledger>(
     ensures disk { IsErrOf result ExecFault.Disk → Rose (D.disk_faults desk.old) (D.disk_faults desk.new) }
     ensures no_fault { (IsErrOf result ExecFault.Disk → ⊥) → D.disk_faults desk.new ≡ D.disk_faults desk.old }
     ensures ask_faults { (n : ℕ) × Raised n (D.ask_faults desk.old) (D.ask_faults desk.new) }
+    ensures unanswered { OnOk result (CountsFaults D.asked D.ask_faults desk.old desk.new) }
     ensures said { D.said desk.new ≡ D.said desk.old }
     ensures say_faults { D.say_faults desk.new ≡ D.say_faults desk.old }
 {
@@ -110,6 +111,7 @@ fn go_round<D: Desk, L: Ledger>(
     ensures disk { IsErrOf result ExecFault.Disk → Rose (D.disk_faults desk.old) (D.disk_faults desk.new) }
     ensures no_fault { (IsErrOf result ExecFault.Disk → ⊥) → D.disk_faults desk.new ≡ D.disk_faults desk.old }
     ensures ask_faults { (n : ℕ) × Raised n (D.ask_faults desk.old) (D.ask_faults desk.new) }
+    ensures unanswered { OnOk result (CountsFaults D.asked D.ask_faults desk.old desk.new) }
     ensures said { D.said desk.new ≡ D.said desk.old }
     ensures say_faults { D.say_faults desk.new ≡ D.say_faults desk.old }
 {
@@ -153,6 +155,9 @@ pub fn drain<D: Desk, L: Ledger>(
     ensures few_syncs { SyncsWithin (D.syncs desk.old) (D.syncs desk.new) (2 * turns) }
     ensures disk { IsErrOf result ExecFault.Disk → Rose (D.disk_faults desk.old) (D.disk_faults desk.new) }
     ensures no_fault { (IsErrOf result ExecFault.Disk → ⊥) → D.disk_faults desk.new ≡ D.disk_faults desk.old }
+
+    // The outside's count of faults rises once for each call that got no answer.
+    ensures unanswered { OnOk result (CountsFaults D.asked D.ask_faults desk.old desk.new) }
     ensures ask_faults { (n : ℕ) × Raised n (D.ask_faults desk.old) (D.ask_faults desk.new) }
     ensures said { D.said desk.new ≡ D.said desk.old }
     ensures say_faults { D.say_faults desk.new ≡ D.say_faults desk.old }

@@ -9,7 +9,7 @@ ghost use Rattle.r3_model.specs.Machine.{State};
 ghost use Rattle.r3_exec.specs.Does.{SyncsWithin};
 ghost use Rattle.r3_exec.specs.Runs.{language};
 ghost use Rattle.r3_exec.specs.Ends.{turn_reply};
-ghost use Rattle.r3_recover.specs.Drained.{DoesDrain, EndsEarly, Raised};
+ghost use Rattle.r3_recover.specs.Drained.{CountsFaults, DoesDrain, EndsEarly, Raised};
 ghost use Rattle.r3_recover.specs.Rounds.{Turns, Point};
 
 use crate::round::Round;
@@ -60,6 +60,7 @@ fn turn_next<D: Desk, L: Ledger>(
     ensures disk { IsErrOf result ExecFault.Disk → Rose (D.disk_faults desk.old) (D.disk_faults desk.new) }
     ensures no_fault { (IsErrOf result ExecFault.Disk → ⊥) → D.disk_faults desk.new ≡ D.disk_faults desk.old }
     ensures ask_faults { (n : ℕ) × Raised n (D.ask_faults desk.old) (D.ask_faults desk.new) }
+    ensures unanswered { OnOk result (CountsFaults D.asked D.ask_faults desk.old desk.new) }
     ensures said { D.said desk.new ≡ D.said desk.old }
     ensures say_faults { D.say_faults desk.new ≡ D.say_faults desk.old }
 {
@@ -106,6 +107,7 @@ pub fn turn_each<D: Desk, L: Ledger>(
     ensures disk { IsErrOf result ExecFault.Disk → Rose (D.disk_faults desk.old) (D.disk_faults desk.new) }
     ensures no_fault { (IsErrOf result ExecFault.Disk → ⊥) → D.disk_faults desk.new ≡ D.disk_faults desk.old }
     ensures ask_faults { (n : ℕ) × Raised n (D.ask_faults desk.old) (D.ask_faults desk.new) }
+    ensures unanswered { OnOk result (CountsFaults D.asked D.ask_faults desk.old desk.new) }
     ensures said { D.said desk.new ≡ D.said desk.old }
     ensures say_faults { D.say_faults desk.new ≡ D.say_faults desk.old }
 {

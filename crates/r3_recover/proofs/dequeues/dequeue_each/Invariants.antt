@@ -3,13 +3,14 @@ use Rattle.r3_model.specs.Machine.{State}
 use Rattle.r3_recover.specs.Rounds.{Point, Queues}
 use Rattle.r3_recover.proofs.dequeues.dequeue_each.Given as goal
 
-pub record Left (Goes Fewer Counted Program Syncs Disk Ask Said Say : Type 0) : Type 0 where
+pub record Left (Goes Fewer Counted Program Syncs Disk Asked Ask Said Say : Type 0) : Type 0 where
   pub goes : Goes
   pub fewer : Fewer
   pub counted : Counted
   pub program : Program
   pub syncs : Syncs
   pub disk : Disk
+  pub asked : Asked
   pub ask : Ask
   pub said : Said
   pub say : Say
@@ -26,6 +27,7 @@ invariant-queues g l = Left
     (l.exec.program ≡ l.fn.exec.program)
     (g.D.Desk.syncs l.desk ≡ g.D.Desk.syncs l.fn.desk)
     (g.D.Desk.disk_faults l.desk ≡ g.D.Desk.disk_faults l.fn.desk)
+    (g.D.Desk.asked l.desk ≡ g.D.Desk.asked l.fn.desk)
     (g.D.Desk.ask_faults l.desk ≡ g.D.Desk.ask_faults l.fn.desk)
     (g.D.Desk.said l.desk ≡ g.D.Desk.said l.fn.desk)
     (g.D.Desk.say_faults l.desk ≡ g.D.Desk.say_faults l.fn.desk)

@@ -7,6 +7,7 @@ use Rattle.r3_exec.proofs.Syncs.{no_more}
 use Rattle.r3_recover.proofs.Leaving.{few-by}
 use Rattle.r3_recover.proofs.Phases.{queue_names}
 use Rattle.r3_recover.proofs.Starts.{ends-first}
+use Rattle.r3_recover.proofs.Failing.{counts-none, counts-raised, counts-then}
 use Rattle.r3_recover.proofs.Taking.{raised-then}
 use Rattle.r3_recover.proofs.Turning.{point-first}
 use Rattle.r3_recover.proofs.draining.drain.Goals as goal
@@ -28,7 +29,7 @@ rounds-init g c = record {
   within = omega arith;
   few = no_more _ _ refl _;
   disk = refl;
-  ask = (0, refl);
+  ask = counts-none g.D.Desk.asked g.D.Desk.ask_faults c.args.desk.now c.args.desk.now refl refl;
   said = refl;
   say = refl;
 }
@@ -54,8 +55,12 @@ returns-in-Ok-Some-clause-does g c = λ st k runs.
 
 pub returns-in-Ok-Some-clause-ask_faults : goal.returns-in-Ok-Some-clause-ask_faults
 returns-in-Ok-Some-clause-ask_faults g c =
-    let inv = c.rounds.invariant in
-    raised-then inv.ask.0 c.go_round.ensures.ask_faults.0 _ _ _ inv.ask.1 c.go_round.ensures.ask_faults.1
+    let n = counts-raised g.D.Desk.asked g.D.Desk.ask_faults c.args.desk.now c.rounds.desk c.rounds.invariant.ask in
+    raised-then n.0 c.go_round.ensures.ask_faults.0 _ _ _ n.1 c.go_round.ensures.ask_faults.1
+
+pub returns-in-Ok-Some-clause-unanswered : goal.returns-in-Ok-Some-clause-unanswered
+returns-in-Ok-Some-clause-unanswered g c =
+    counts-then g.D.Desk.asked g.D.Desk.ask_faults c.args.desk.now c.rounds.desk c.go_round.new.desk c.rounds.invariant.ask c.in-Ok-Some.ensures.unanswered
 
 pub returns-in-Err-go_round-clause-early : goal.returns-in-Err-go_round-clause-early
 returns-in-Err-go_round-clause-early g c = λ st k runs.
@@ -65,8 +70,8 @@ returns-in-Err-go_round-clause-early g c = λ st k runs.
 
 pub returns-in-Err-go_round-clause-ask_faults : goal.returns-in-Err-go_round-clause-ask_faults
 returns-in-Err-go_round-clause-ask_faults g c =
-    let inv = c.rounds.invariant in
-    raised-then inv.ask.0 c.go_round.ensures.ask_faults.0 _ _ _ inv.ask.1 c.go_round.ensures.ask_faults.1
+    let n = counts-raised g.D.Desk.asked g.D.Desk.ask_faults c.args.desk.now c.rounds.desk c.rounds.invariant.ask in
+    raised-then n.0 c.go_round.ensures.ask_faults.0 _ _ _ n.1 c.go_round.ensures.ask_faults.1
 
 pub rounds-preserved : goal.rounds-preserved
 rounds-preserved g c =
@@ -81,7 +86,7 @@ rounds-preserved g c =
       few = few-by (g.D.Desk.syncs c.args.desk.now) (g.D.Desk.syncs c.rounds.desk) (g.D.Desk.syncs c.go_round.new.desk) (2 * (c.args.turns - c.rounds.left)) (2 * (c.rounds.left - c.go_round.new.left)) _
           inv.few c.in-Ok-None.ensures.counted_syncs (omega (arith, inv.within, c.in-Ok-None.ensures.fewer (ap (λ o. Ok o) c.in-Ok-None.field-0-is)));
       disk = c.in-Ok-None.ensures.no_fault (λ none. cc) ∙ inv.disk;
-      ask = raised-then inv.ask.0 c.go_round.ensures.ask_faults.0 _ _ _ inv.ask.1 c.go_round.ensures.ask_faults.1;
+      ask = counts-then g.D.Desk.asked g.D.Desk.ask_faults c.args.desk.now c.rounds.desk c.go_round.new.desk inv.ask c.in-Ok-None.ensures.unanswered;
       said = c.go_round.ensures.said ∙ inv.said;
       say = c.go_round.ensures.say_faults ∙ inv.say;
     }

@@ -2,7 +2,7 @@ use Rattle.std.proofs.Common.{◌≡◌, ◌≤◌, ◌*◌, ◌-◌, ℕ, false
 use Rattle.r3_model.specs.Machine.{State}
 use Rattle.r3_exec.specs.Does.{SyncsWithin}
 use Rattle.r3_exec.specs.Runs.{Runs}
-use Rattle.r3_recover.specs.Drained.{Raised}
+use Rattle.r3_recover.specs.Drained.{CountsFaults}
 use Rattle.r3_recover.specs.Rounds.{Point, Queues}
 use Rattle.r3_recover.proofs.draining.drain.Given as goal
 
@@ -25,7 +25,7 @@ invariant-rounds g l = Between
     (l.left ≤ l.turns)
     (SyncsWithin (g.D.Desk.syncs l.fn.desk) (g.D.Desk.syncs l.desk) (2 * (l.turns - l.left)))
     (g.D.Desk.disk_faults l.desk ≡ g.D.Desk.disk_faults l.fn.desk)
-    ((n : ℕ) × Raised n (g.D.Desk.ask_faults l.fn.desk) (g.D.Desk.ask_faults l.desk))
+    (CountsFaults g.D.Desk.asked g.D.Desk.ask_faults l.fn.desk l.desk)
     (g.D.Desk.said l.desk ≡ g.D.Desk.said l.fn.desk)
     (g.D.Desk.say_faults l.desk ≡ g.D.Desk.say_faults l.fn.desk)
 

@@ -6,6 +6,8 @@ use Rattle.r3_exec.specs.Does.{SyncsWithin}
 use Rattle.r3_exec.proofs.Syncs.{no_more}
 use Rattle.r3_recover.proofs.Leaving.{few-by}
 use Rattle.r3_recover.proofs.Phases.{queue_names}
+use Rattle.r3_recover.specs.Drained.{CountsFaults}
+use Rattle.r3_recover.proofs.Failing.{counts-none, counts-then}
 use Rattle.r3_recover.proofs.Taking.{raised-then}
 use Rattle.r3_recover.proofs.Turning.{GoesRound, on-ok, one-taken}
 use Rattle.r3_recover.proofs.draining.go_round.Goals as goal
@@ -34,6 +36,21 @@ returns-in-Err-clause-ask_faults g c = (0, c.dequeue_each.ensures.ask_faults)
 
 pub returns-clause-ask_faults : goal.returns-clause-ask_faults
 returns-clause-ask_faults g c = raised-then 0 c.give_turns-end.ensures.ask_faults.0 _ _ _ c.dequeue_each.ensures.ask_faults c.give_turns-end.ensures.ask_faults.1
+
+pub returns-in-Ok-false-clause-unanswered : goal.returns-in-Ok-false-clause-unanswered
+returns-in-Ok-false-clause-unanswered g c =
+    counts-none g.D.Desk.asked g.D.Desk.ask_faults c.args.desk.now c.dequeue_each.new.desk c.dequeue_each.ensures.asked c.dequeue_each.ensures.ask_faults
+
+pub returns-clause-unanswered : goal.returns-clause-unanswered
+returns-clause-unanswered g c =
+    let asked = g.D.Desk.asked in
+    let faults = g.D.Desk.ask_faults in
+    let old = c.args.desk.now in
+    let mid = c.dequeue_each.new.desk in
+    let new = c.give_turns-end.new.desk in
+    on-ok c.give_turns-end.result (CountsFaults asked faults mid new) (CountsFaults asked faults old new)
+    (λ x. counts-then asked faults old mid new (counts-none asked faults old mid c.dequeue_each.ensures.asked c.dequeue_each.ensures.ask_faults) x)
+    c.give_turns-end.ensures.unanswered
 
 pub returns-clause-fewer : goal.returns-clause-fewer
 returns-clause-fewer g c = λ is.

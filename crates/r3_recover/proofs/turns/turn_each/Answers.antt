@@ -4,6 +4,7 @@ use Rattle.r3_recover.specs.Drained.{EndsEarly}
 use Rattle.r3_recover.specs.Rounds.{Point, Turns}
 use Rattle.r3_exec.proofs.Syncs.{no_more}
 use Rattle.r3_recover.proofs.Leaving.{few-by, few-more}
+use Rattle.r3_recover.proofs.Failing.{counts-none, counts-raised, counts-then}
 use Rattle.r3_recover.proofs.Taking.{raised-then, with-first, with-none}
 use Rattle.r3_recover.proofs.Turning.{point-cut}
 use Rattle.r3_recover.proofs.turns.turn_each.Goals as goal
@@ -32,7 +33,7 @@ ids-init g c = record {
   program = refl;
   few = no_more _ _ refl _;
   disk = refl;
-  ask = (0, refl);
+  ask = counts-none g.D.Desk.asked g.D.Desk.ask_faults c.args.desk.now c.args.desk.now refl refl;
   said = refl;
   say = refl;
 }
@@ -51,7 +52,7 @@ ids-preserved g c =
       few = few-by (g.D.Desk.syncs c.args.desk.now) (g.D.Desk.syncs c.ids.desk) (g.D.Desk.syncs c.turn_next.new.desk) (2 * (c.args.round.now.left - c.ids.round.left)) 2 _
           inv.few c.in-Ok.ensures.few_syncs (omega (arith, inv.fewer, c.in-Ok.ensures.counted));
       disk = c.in-Ok.ensures.no_fault (λ none. cc) ∙ inv.disk;
-      ask = raised-then inv.ask.0 c.in-Ok.ensures.ask_faults.0 _ _ _ inv.ask.1 c.in-Ok.ensures.ask_faults.1;
+      ask = counts-then g.D.Desk.asked g.D.Desk.ask_faults c.args.desk.now c.ids.desk c.turn_next.new.desk inv.ask c.in-Ok.ensures.unanswered;
       said = c.in-Ok.ensures.said ∙ inv.said;
       say = c.in-Ok.ensures.say_faults ∙ inv.say;
     }
@@ -82,8 +83,14 @@ returns-clause-goes g c = λ from st k turns p. (
 
 pub returns-in-Err-clause-ask_faults : goal.returns-in-Err-clause-ask_faults
 returns-in-Err-clause-ask_faults g c =
-    let inv = c.ids.invariant in
-    raised-then inv.ask.0 c.in-Err.ensures.ask_faults.0 _ _ _ inv.ask.1 c.in-Err.ensures.ask_faults.1
+    let n = counts-raised g.D.Desk.asked g.D.Desk.ask_faults c.args.desk.now c.ids.desk c.ids.invariant.ask in
+    raised-then n.0 c.in-Err.ensures.ask_faults.0 _ _ _ n.1 c.in-Err.ensures.ask_faults.1
+
+pub returns-then-round-eq0-clause-ask_faults : goal.returns-then-round-eq0-clause-ask_faults
+returns-then-round-eq0-clause-ask_faults g c = counts-raised g.D.Desk.asked g.D.Desk.ask_faults c.args.desk.now c.ids.desk c.ids.invariant.ask
+
+pub returns-clause-ask_faults : goal.returns-clause-ask_faults
+returns-clause-ask_faults g c = counts-raised g.D.Desk.asked g.D.Desk.ask_faults c.args.desk.now c.ids.desk c.ids.invariant.ask
 
 pub returns-then-round-eq0-clause-few_syncs : goal.returns-then-round-eq0-clause-few_syncs
 returns-then-round-eq0-clause-few_syncs g c =

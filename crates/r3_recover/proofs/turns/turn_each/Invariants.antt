@@ -1,7 +1,7 @@
 use Rattle.std.proofs.Common.{◌≡◌, ◌≤◌, ◌<◌, ◌*◌, ◌-◌, ℕ, true, false, drop}
 use Rattle.r3_model.specs.Machine.{State}
 use Rattle.r3_exec.specs.Does.{SyncsWithin}
-use Rattle.r3_recover.specs.Drained.{Raised}
+use Rattle.r3_recover.specs.Drained.{CountsFaults}
 use Rattle.r3_recover.specs.Rounds.{Point, Turns}
 use Rattle.r3_recover.proofs.turns.turn_each.Given as goal
 
@@ -28,6 +28,6 @@ invariant-ids g l = Left
     (l.exec.program ≡ l.fn.exec.program)
     (SyncsWithin (g.D.Desk.syncs l.fn.desk) (g.D.Desk.syncs l.desk) (2 * (l.fn.round.left - l.round.left)))
     (g.D.Desk.disk_faults l.desk ≡ g.D.Desk.disk_faults l.fn.desk)
-    ((n : ℕ) × Raised n (g.D.Desk.ask_faults l.fn.desk) (g.D.Desk.ask_faults l.desk))
+    (CountsFaults g.D.Desk.asked g.D.Desk.ask_faults l.fn.desk l.desk)
     (g.D.Desk.said l.desk ≡ g.D.Desk.said l.fn.desk)
     (g.D.Desk.say_faults l.desk ≡ g.D.Desk.say_faults l.fn.desk)

@@ -3,7 +3,9 @@ use Rattle.std.specs.Prelude.{IsSome}
 use Rattle.r3_model.specs.Language.{Text}
 use Rattle.r3_model.specs.Rows.{flow_at}
 use Rattle.r3_exec.specs.Ends.{turn_reply}
+use Rattle.r3_exec.specs.Runs.{language}
 use Rattle.r3_recover.specs.Kept.{settled_by}
+use Rattle.r3_recover.proofs.Failing.{counts-turn}
 use Rattle.r3_recover.proofs.Taking.{raised-once, turn-done, turn-ends}
 use Rattle.r3_recover.proofs.turns.turn_next.Goals as goal
 
@@ -31,3 +33,11 @@ returns-in-Ok-clause-ask_faults g c = raised-once c.in-Ok.end _ _ c.in-Ok.ensure
 
 pub returns-in-Err-clause-ask_faults : goal.returns-in-Err-clause-ask_faults
 returns-in-Err-clause-ask_faults g c = (0, c.in-Err.ensures.answered (λ is. cc))
+
+pub returns-in-Ok-clause-unanswered : goal.returns-in-Ok-clause-unanswered
+returns-in-Ok-clause-unanswered g c =
+    let x = c.requires.point in
+    let p = x.5 in
+    let d = c.in-Ok.ensures.does p.after (settled_by x.2 p.marks) p.runs in
+    counts-turn g.D.Desk.asked g.D.Desk.ask_faults c.args.desk.now c.turn.new.desk (language c.turn.new.self) p.after d.after c.as_str.result.now c.in-Ok.end d.calls d.steps d.told
+    c.in-Ok.ensures.again c.in-Ok.ensures.answered
