@@ -32,11 +32,12 @@ first_writer h snap keys =
 abbrev pub all_installed : ℕ → List (Key × Option Cell) → Versions Key Cell → Versions Key Cell
 all_installed index writes es = fold (λ es w. installed key_cmp index w.0 w.1 es) es writes
 
+-- how many writes the entries have
 abbrev pub write_count : List Entry → ℕ
 write_count [] = 0
 write_count (e ∷ es) = length e.writes + write_count es
 
--- so many more versions don't pass the cap
+-- So many more versions don't pass the cap. An entry of at most 2^23 bytes writes fewer than 2^21 keys.
 abbrev pub HasRoom : Chains Key Cell → ℕ → Type 0
 HasRoom chains n = kept_count chains.versions + n ≤ chains.cap
 
