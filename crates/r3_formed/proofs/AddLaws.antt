@@ -1,5 +1,5 @@
 -- The rules, write after write, are those of formed histories.
-use Rattle.std.proofs.Common.{◌≡◌, ℕ, ◌+◌, ◌<◌, ◌≤◌, Bool, true, false, cond, List, [], ◌∷◌, ◌++◌, length, Option, Some, None, refl, sym, ap, ◌∙◌, subst, arith, fold}
+use Rattle.std.proofs.Common.{◌≡◌, ℕ, ◌+◌, ◌<◌, ◌≤◌, Bool, true, false, cond, List, [], ◌∷◌, length, Option, Some, refl, sym, ap, ◌∙◌, subst, arith, fold}
 use Rattle.std.specs.Prelude.{◌↔◌, IsTrue, IsSome, T, nat_le, option_and_then}
 use Rattle.std.specs.Option.{option_map_or}
 use Rattle.std.proofs.lemmas.Bool.Decides.{nat_tests}
@@ -11,16 +11,15 @@ use Rattle.std.specs.FinMap.Entries.{put, is_sorted, below_all, find-put}
 use Rattle.r3_rows.specs.declared.rows.Key.{Key}
 use Rattle.r3_rows.specs.declared.rows.Key.TheVariants.{User, Flow, Step}
 use Rattle.r3_rows.specs.declared.rows.Cell.{Cell}
-use Rattle.r3_rows.specs.declared.rows.Read.{Read}
 use Rattle.r3_rows.specs.Keys.{key_cmp, kind}
 use Rattle.r3_rows.specs.KeyOrder.{key_cmp-total, key_cmp-same}
 use Rattle.r3_entry.specs.declared.entry.Entry.{Entry}
-use Rattle.r3_entry.specs.History.{Map, Write, map_at, after_entry}
-use Rattle.r3_entry.specs.Formed.{Follows, IsProgramFirst, IsOfKind, IsFlowRow}
-use Rattle.r3_chain.specs.Versions.{Versions, versions_of, installed, as_of, IsNext}
+use Rattle.r3_entry.specs.History.{Map, Write, after_entry}
+use Rattle.r3_entry.specs.Formed.{Follows, IsProgramFirst}
+use Rattle.r3_chain.specs.Versions.{Versions, installed, as_of, IsNext}
 use Rattle.r3_chain.specs.VersionLaws.{lower_below, as_of-installed, sorted_installed}
 use Rattle.r3_formed.specs.Past.{StandFor, all_installed}
-use Rattle.r3_formed.specs.Rules.{version_in, cell_in, look_in, IsWriteIn, HasFlow, FitsBehind}
+use Rattle.r3_formed.specs.Rules.{version_in, look_in, IsWriteIn, HasFlow, FitsBehind}
 use Rattle.r3_formed.specs.Adding.{AreNext, MayStand, MayAllStand, IsWithin}
 use Rattle.r3_formed.proofs.Writes.{first, second, less_of, apart, keeps_versions}
 use Rattle.r3_formed.proofs.Ready.{all_next}

@@ -16,6 +16,7 @@ use Rattle.r3_chain.specs.Versions.{Versions, Version, versions_of, installed, a
 use Rattle.r3_chain.specs.VersionLaws.{as_of-installed, sorted_installed, versions_of-installed, sorted_trimmed, as_of-trimmed, first_past-trimmed, versions_of-trimmed, all_trimmed, falling_trimmed}
 use Rattle.r3_rows.specs.KeyOrder.{key_cmp-total, key_cmp-same}
 use Rattle.r3_formed.specs.Past.{StandFor, all_installed, first_from, first_write}
+use Rattle.r3_formed.proofs.Capacity.{kept_all, kept_trimmed, writes_push}
 
 abbrev Writes : Type 0
 Writes = List (Key × Option Cell)
@@ -156,6 +157,7 @@ trimmed_stands es h oldest later le stand = record {
       ∙ first_past-trimmed later snap (versions_of key_cmp q es) from (stand.falling q) ∙ stand.past snap q (omega arith);
   numbers = λ q. subst (AllByRecursion (λ v. v.0 ≤ length h)) (sym (versions_of-trimmed key_cmp later q es)) (all_trimmed (length h) later (versions_of key_cmp q es) (stand.numbers q));
   falling = λ q. subst AreFalling (sym (versions_of-trimmed key_cmp later q es)) (falling_trimmed later (versions_of key_cmp q es) (stand.falling q));
+  kept = omega (arith, stand.kept, kept_trimmed later es);
 }
 
 pub grown : (es : VS) (h : List Entry) (e : Entry) (oldest : ℕ) → StandFor es h oldest → StandFor (all_installed (length h + 1) e.writes es) (h ++ e ∷ []) oldest
@@ -166,4 +168,5 @@ grown es h e oldest stand = record {
   numbers = λ q. grown_numbers (length (h ++ e ∷ [])) (length h + 1) e.writes es (omega (arith, length-append h (e ∷ [])))
       (λ p. weaken_all (length h) (length (h ++ e ∷ [])) (versions_of key_cmp p es) (omega (arith, length-append h (e ∷ []))) (stand.numbers p)) q;
   falling = grown_falling (length h + 1) e.writes es (λ p. weaken_all (length h) (length h + 1) (versions_of key_cmp p es) (omega arith) (stand.numbers p)) stand.falling;
+  kept = omega (arith, stand.kept, kept_all (length h + 1) e.writes es stand.sorted, writes_push h e);
 }

@@ -1,3 +1,4 @@
+pub mod Capacity
 pub mod Grows
 pub mod Writes
 pub mod LookLemmas

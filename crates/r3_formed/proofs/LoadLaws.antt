@@ -117,6 +117,7 @@ none_stands = record {
   past = λ snap key le. refl;
   numbers = λ key. tt;
   falling = λ key. tt;
+  kept = omega arith;
 }
   where
     none_map : (k : ℕ) → [] ≡ map_at [] k

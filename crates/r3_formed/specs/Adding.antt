@@ -1,5 +1,5 @@
 -- The rules of formed histories, write after write, while versions are added.
-use Rattle.std.specs.Prelude.{◌≡◌, ℕ, ◌+◌, ◌≤◌, T, List, [], ◌∷◌, Option, ⊤, count_by, sum_by}
+use Rattle.std.specs.Prelude.{◌≡◌, ℕ, ◌≤◌, T, List, [], ◌∷◌, Option, ⊤, count_by, sum_by}
 use Rattle.std.specs.List.{AllByRecursion}
 use Rattle.std.specs.FinMap.Entries.{is_sorted}
 use Rattle.r3_rows.specs.Keys.{key_cmp, kind}

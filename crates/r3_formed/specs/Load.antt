@@ -1,5 +1,5 @@
 -- What is read of a log, entry after entry.
-use Rattle.std.specs.Prelude.{◌≡◌, ℕ, ◌+◌, Bool, cond, List, [], ◌∷◌, ◌++◌, length, map, Vec}
+use Rattle.std.specs.Prelude.{◌≡◌, ℕ, ◌+◌, ◌^◌, Bool, cond, List, [], ◌∷◌, ◌++◌, length, map, Vec}
 use Rattle.std.specs.declared.alloc.Global.{Global}
 use Rattle.r3_entry.specs.declared.entry.Entry.{Entry}
 use Rattle.r3_entry.specs.declared.fault.EntryFault.{EntryFault}
@@ -23,6 +23,7 @@ bytes_of ps = map (λ p. p.items) ps
 pub record Loads (l : Loaded) (keep : Bool) (h : List Entry) : Type 0 where
   pub formed : IsFormed h
   pub versions : StandFor l.chains.versions h 0
+  pub cap : l.chains.cap ≡ 2 ^ 28
   pub entries : l.entries.items ≡ cond keep h []
   pub texts : map text_of l.texts.items ≡ cond keep [] (program_texts h)
 

@@ -8,7 +8,7 @@ use Rattle.r3_rows.specs.declared.rows.Cell.{Cell}
 use Rattle.r3_entry.specs.declared.entry.Entry.{Entry}
 use Rattle.r3_rows.specs.Keys.{key_cmp}
 use Rattle.r3_entry.specs.History.{map_at, writes_key}
-use Rattle.r3_chain.specs.Versions.{Versions, versions_of, installed, as_of, first_past, has_room, IsNext, AreFalling}
+use Rattle.r3_chain.specs.Versions.{Chains, Versions, versions_of, installed, as_of, first_past, has_room, kept_count, IsNext, AreFalling}
 use Rattle.r3_snap.specs.Conflicts.{earlier}
 
 -- entries from number j on: the first past the snapshot that writes the key
@@ -32,14 +32,24 @@ first_writer h snap keys =
 abbrev pub all_installed : ℕ → List (Key × Option Cell) → Versions Key Cell → Versions Key Cell
 all_installed index writes es = fold (λ es w. installed key_cmp index w.0 w.1 es) es writes
 
+-- how many writes the entries have
+abbrev pub write_count : List Entry → ℕ
+write_count [] = 0
+write_count (e ∷ es) = length e.writes + write_count es
+
+-- So many more versions don't pass the cap. An entry of at most 2^23 bytes writes fewer than 2^21 keys.
+abbrev pub HasRoom : Chains Key Cell → ℕ → Type 0
+HasRoom chains n = kept_count chains.versions + n ≤ chains.cap
+
 -- Versions stand for a history: as of each index from the oldest on for what it then held, and past each such snapshot
--- for who wrote.
+-- for who wrote. There are no more of them than writes.
 pub record StandFor (es : Versions Key Cell) (h : List Entry) (oldest : ℕ) : Type 0 where
   pub sorted : T (is_sorted key_cmp es)
   pub maps : (k : ℕ) → oldest ≤ k → as_of k es ≡ map_at h k
   pub past : (snap : ℕ) (key : Key) → oldest ≤ snap → first_past snap (versions_of key_cmp key es) ≡ first_write h snap key
   pub numbers : (key : Key) → AllByRecursion (λ v. v.0 ≤ length h) (versions_of key_cmp key es)
   pub falling : (key : Key) → AreFalling (versions_of key_cmp key es)
+  pub kept : kept_count es ≤ write_count h
 
 -- each write has room, and a higher index than its key's versions
 pub record AreReady (index : ℕ) (writes : List (Key × Option Cell)) (free : List Key) (es : Versions Key Cell) : Type 0 where

@@ -13,7 +13,7 @@ ghost use Rattle.r3_entry.specs.Bytes.{entry as spelled};
 ghost use Rattle.r3_entry.specs.Limits.{IsEntry};
 ghost use Rattle.r3_entry.specs.Formed.{Follows, IsOfKind, IsFlowRow};
 ghost use Rattle.r3_chain.specs.Versions.{IsNext, as_of, installed};
-ghost use Rattle.r3_formed.specs.Past.{StandFor, all_installed};
+ghost use Rattle.r3_formed.specs.Past.{HasRoom, StandFor, all_installed};
 ghost use Rattle.r3_formed.specs.Rules.{HasFlow, look_in, version_in};
 ghost use Rattle.r3_formed.specs.Adding.{AreNext, IsWithin, MayStand, MayAllStand};
 
@@ -22,6 +22,7 @@ use crate::looks::{is_present, is_read_again, version_as_of};
 use crate::rules::{is_flow_row, is_of_kind, is_program_first, kind_of};
 use r3_chain::Chains;
 use r3_entry::{Act, Entry, EntryFault, decode, one_spelling};
+use r3_pool::PoolFault;
 use r3_rows::{Cell, Key, Read};
 use r3_value::Memory;
 use sqlite_items::Items;
@@ -122,13 +123,16 @@ fn add_version(
 ) -> Result<u32, Memory>
     requires sorted { T (is_sorted key_cmp chains.old.versions) }
     requires next { IsNext key_cmp index key chains.old.versions }
+    requires room { HasRoom chains.old 1 }
     ensures versions { OnOk result (chains.new.versions
         ≡ installed key_cmp index key value chains.old.versions) }
     ensures before { IfOk result (λ v. v ≡ version_in (as_of index chains.old.versions) key) }
+    ensures cap { chains.new.cap ≡ chains.old.cap }
 {
     match chains.add(index, key, value) {
         Ok(before) => Ok(before),
-        Err(_) => Err(Memory),
+        Err(PoolFault::Full) => unreachable!(),
+        Err(PoolFault::Memory) => Err(Memory),
     }
 }
 
@@ -147,9 +151,11 @@ fn add_write(
 ) -> Result<bool, Memory>
     requires sorted { T (is_sorted key_cmp chains.old.versions) }
     requires next { IsNext key_cmp index write.0 chains.old.versions }
+    requires room { HasRoom chains.old 1 }
     ensures may { IfOk result (λ b. IsTrue b ↔ MayStand index snap write chains.old.versions) }
     ensures versions { OnOk result (chains.new.versions
         ≡ installed key_cmp index write.0 write.1 chains.old.versions) }
+    ensures cap { chains.new.cap ≡ chains.old.cap }
 {
     let is_sound = is_sound_write(index, &write);
     let (key, value) = write;
@@ -166,11 +172,13 @@ fn add_writes(
     snap: u32,
     writes: Vec<(Key, Option<Cell>)>,
 ) -> Result<bool, Memory>
-    requires { AreNext index writes.items chains.old.versions }
+    requires next { AreNext index writes.items chains.old.versions }
+    requires room { HasRoom chains.old (length writes.items) }
     ensures may { IfOk result (λ b. IsTrue b
         ↔ MayAllStand index snap writes.items chains.old.versions) }
     ensures versions { IfOk result (λ b. IsTrue b →
         chains.new.versions ≡ all_installed index writes.items chains.old.versions) }
+    ensures cap { chains.new.cap ≡ chains.old.cap }
 {
     // They are taken from the end.
     let mut writes = writes;
@@ -194,11 +202,13 @@ fn add_parts(
 ) -> Result<bool, Memory>
     requires few { count < 1000000 }
     requires next { AreNext (count + 1) writes.items chains.old.versions }
+    requires room { HasRoom chains.old (length writes.items) }
     ensures may { IfOk result (λ b. IsTrue b
         ↔ AllByRecursion (λ r. r ≡ look_in (as_of snap chains.old.versions) r) reads
         × MayAllStand (count + 1) snap writes.items chains.old.versions) }
     ensures versions { IfOk result (λ b. IsTrue b →
         chains.new.versions ≡ all_installed (count + 1) writes.items chains.old.versions) }
+    ensures cap { chains.new.cap ≡ chains.old.cap }
 {
     if !are_read_back(alloc, chains, snap, reads)? {
         return Ok(false);
@@ -229,11 +239,13 @@ fn move_in(
 ) -> Result<(bool, Act), Memory>
     requires few { count < 1000000 }
     requires stands { (h : List Entry) × (count ≡ length h) × StandFor chains.old.versions h 0 }
+    requires room { HasRoom chains.old (length entry.writes) }
     ensures follows { (h : List Entry) → count ≡ length h → StandFor chains.old.versions h 0 →
         IfOk result (λ r. IsTrue r.0 ↔ Follows h entry) }
     ensures versions { (h : List Entry) → count ≡ length h → StandFor chains.old.versions h 0 →
         IfOk result (λ r. IsTrue r.0 → StandFor chains.new.versions (h ++ entry ∷ []) 0) }
     ensures act { IfOk result (λ r. r.1 ≡ entry.act) }
+    ensures cap { chains.new.cap ≡ chains.old.cap }
 {
     let is_known = is_program_first(count, &entry) && is_within(count, &entry);
     let Entry {
@@ -261,12 +273,14 @@ pub fn move_payload(
     requires bytes { length payload.now ≤ 2 ^ 23 }
     requires few { count < 1000000 }
     requires stands { (h : List Entry) × (count ≡ length h) × StandFor chains.old.versions h 0 }
+    requires room { HasRoom chains.old (2 ^ 21) }
     ensures entry { (h : List Entry) → count ≡ length h → StandFor chains.old.versions h 0 →
         IfOk result (λ act. (e : Entry) × (act ≡ e.act) × IsEntry e × (payload.now ≡ spelled e)
         × Follows h e × StandFor chains.new.versions (h ++ e ∷ []) 0) }
     ensures unformed { (h : List Entry) → count ≡ length h → StandFor chains.old.versions h 0 →
         result ≡ Err EntryFault.NotEntry → (e : Entry) → payload.now ≡ spelled e → IsEntry e →
         Follows h e → ⊥ }
+    ensures cap { chains.new.cap ≡ chains.old.cap }
 {
     let entry = match decode(alloc, payload) {
         Ok(entry) => entry,

@@ -1,12 +1,13 @@
 //! Laws of the definitions: each is the contract of a function that does nothing.
 
-ghost use Rattle.std.specs.Prelude.{◌≡◌, ◌+◌, ◌≤◌, ◌++◌, ◌∷◌, [], ℕ, IsTrue, List, Some, length};
+ghost use Rattle.std.specs.Prelude.{◌≡◌, ◌+◌, ◌≤◌, ◌^◌, ◌++◌, ◌∷◌, [], ℕ, IsTrue, List, Some, length};
 ghost use Rattle.std.specs.FinMap.Entries.{is_sorted};
 ghost use Rattle.r3_rows.specs.Keys.{key_cmp};
 ghost use Rattle.r3_rows.specs.declared.rows.Cell.{Cell};
 ghost use Rattle.r3_rows.specs.declared.rows.Key.{Key};
 ghost use Rattle.r3_entry.specs.declared.entry.Entry.{Entry};
-ghost use Rattle.r3_chain.specs.Versions.{Versions, key_set, trimmed_all};
+ghost use Rattle.r3_entry.specs.Bytes.{entry as spelled, size};
+ghost use Rattle.r3_chain.specs.Versions.{Versions, kept_count, key_set, trimmed_all};
 ghost use Rattle.r3_snap.specs.Conflicts.{keys_of};
 ghost use Rattle.r3_formed.specs.Answers.{program_texts, text_at};
 ghost use Rattle.r3_formed.specs.Past.{AreReady, StandFor, all_installed, first_conflict, first_write, first_writer};
@@ -41,4 +42,11 @@ pub fn history_goes_on()
 pub fn trimmed_stand()
     ensures { (es : Versions Key Cell) (h : List Entry) (oldest later : ℕ) →
         oldest ≤ later → StandFor es h oldest → StandFor (trimmed_all later es) h later }
+{}
+
+/// A log has too few bytes for more than 2^28 versions, also with one more entry.
+pub fn versions_are_few()
+    ensures { (es : Versions Key Cell) (h : List Entry) (oldest : ℕ) (e : Entry) →
+        StandFor es h oldest → size h ≤ 2 ^ 30 → length (spelled e) ≤ 2 ^ 23 →
+        kept_count es + length e.writes ≤ 2 ^ 28 }
 {}

@@ -18,7 +18,9 @@ mod tests;
 
 pub use fault::LoadFault;
 pub use install::{install_all, make_room};
-pub use laws::{first_conflict_is, first_write_is, history_goes_on, trimmed_stand};
+pub use laws::{
+    first_conflict_is, first_write_is, history_goes_on, trimmed_stand, versions_are_few,
+};
 pub use loading::{Loaded, load, put_text};
 pub use looks::{flows_as_of, texts_between};
 pub use rules::is_program_first;

@@ -7,7 +7,7 @@ ghost use Rattle.r3_entry.specs.Bytes.{entry as spelled, size};
 ghost use Rattle.r3_entry.specs.Limits.{IsEntry};
 ghost use Rattle.r3_entry.specs.Formed.{Follows, IsFormed};
 ghost use Rattle.r3_gate.specs.Log.{Fits};
-ghost use Rattle.r3_formed.specs.Past.{StandFor};
+ghost use Rattle.r3_formed.specs.Past.{HasRoom, StandFor};
 ghost use Rattle.r3_formed.specs.Answers.{text_at, text_of};
 ghost use Rattle.r3_formed.specs.Load.{Loads, AreUnformed, bytes_of, load_fault, payloads as payloads_of};
 
@@ -21,9 +21,9 @@ use r3_rows::{Cell, Key};
 use r3_value::Memory;
 use std::alloc::Global;
 
-// How many versions the chains may keep. A write takes at least 12 bytes of a log of at most 2^30, so
+// How many versions the chains may keep. A write takes at least 6 bytes of a log of at most 2^30, so
 // there are never so many.
-const MAX_VERSIONS: u32 = 1 << 27;
+const MAX_VERSIONS: u32 = 1 << 28;
 
 /// What was read of a log.
 #[derive(Drop)]
@@ -46,10 +46,12 @@ fn admit(
 ) -> Result<bool, Memory>
     requires few { count < 1000000 }
     requires stands { (h : List Entry) × (count ≡ length h) × StandFor chains.old.versions h 0 }
+    requires room { HasRoom chains.old (length entry.now.writes) }
     ensures follows { (h : List Entry) → count ≡ length h → StandFor chains.old.versions h 0 →
         IfOk result (λ b. IsTrue b ↔ Follows h entry.now) }
     ensures versions { (h : List Entry) → count ≡ length h → StandFor chains.old.versions h 0 →
         IfOk result (λ b. IsTrue b → StandFor chains.new.versions (h ++ entry.now ∷ []) 0) }
+    ensures cap { chains.new.cap ≡ chains.old.cap }
 {
     if !is_program_first(count, entry) {
         return Ok(false);
@@ -72,12 +74,14 @@ fn add_entry(
     requires bytes { length payload.now ≤ 2 ^ 23 }
     requires few { count < 1000000 }
     requires stands { (h : List Entry) × (count ≡ length h) × StandFor chains.old.versions h 0 }
+    requires room { HasRoom chains.old (2 ^ 21) }
     ensures entry { IfOk result (λ e. IsEntry e × (payload.now ≡ spelled e)) }
     ensures follows { (h : List Entry) → count ≡ length h → StandFor chains.old.versions h 0 →
         IfOk result (λ e. Follows h e × StandFor chains.new.versions (h ++ e ∷ []) 0) }
     ensures unformed { (h : List Entry) → count ≡ length h → StandFor chains.old.versions h 0 →
         result ≡ Err EntryFault.NotEntry → (e : Entry) → payload.now ≡ spelled e → IsEntry e →
         Follows h e → ⊥ }
+    ensures cap { chains.new.cap ≡ chains.old.cap }
 {
     let entry = match decode(alloc, payload) {
         Ok(entry) => entry,
@@ -142,6 +146,7 @@ fn load_kept(
     requires bytes { length payload.now ≤ 2 ^ 23 }
     requires few { count < 1000000 }
     requires stands { (h : List Entry) × (count ≡ length h) × StandFor loaded.old.chains.versions h 0 }
+    requires room { HasRoom loaded.old.chains (2 ^ 21) }
     ensures ok { (h : List Entry) → count ≡ length h → Loads loaded.old true h →
         size h + (5 + length payload.now) ≤ 2 ^ 30 →
         OnOk result ((e : Entry) × (payload.now ≡ spelled e)
@@ -182,6 +187,7 @@ fn load_moved(
     requires bytes { length payload.now ≤ 2 ^ 23 }
     requires few { count < 1000000 }
     requires stands { (h : List Entry) × (count ≡ length h) × StandFor loaded.old.chains.versions h 0 }
+    requires room { HasRoom loaded.old.chains (2 ^ 21) }
     ensures ok { (h : List Entry) → count ≡ length h → Loads loaded.old false h →
         size h + (5 + length payload.now) ≤ 2 ^ 30 →
         OnOk result ((e : Entry) × (payload.now ≡ spelled e)
@@ -212,6 +218,7 @@ fn load_either(
     requires bytes { length payload.now ≤ 2 ^ 23 }
     requires few { count < 1000000 }
     requires stands { (h : List Entry) × (count ≡ length h) × StandFor loaded.old.chains.versions h 0 }
+    requires room { HasRoom loaded.old.chains (2 ^ 21) }
     ensures ok { (h : List Entry) → count ≡ length h → Loads loaded.old keep h →
         size h + (5 + length payload.now) ≤ 2 ^ 30 →
         OnOk result ((e : Entry) × (payload.now ≡ spelled e)

@@ -1,5 +1,5 @@
 -- What a store's log tells of what is staged, and what a crash leaves of it.
-use Rattle.std.proofs.Common.{◌≡◌, ◌⊎◌, ℕ, ◌+◌, ◌<◌, ◌≤◌, List, [], ◌∷◌, ◌++◌, length, take, drop, refl, sym, ap, subst, ◌∙◌, inl, inr, ⊎_elim, arith, append-nil, length-append, Option, true, false, nat_lt}
+use Rattle.std.proofs.Common.{◌≡◌, ◌⊎◌, ℕ, ◌+◌, ◌^◌, ◌<◌, ◌≤◌, List, [], ◌∷◌, ◌++◌, length, take, drop, refl, sym, ap, subst, ◌∙◌, inl, inr, ⊎_elim, arith, append-nil, length-append, Option, true, false, nat_lt}
 use Rattle.std.proofs.lemmas.List.{map-append, take-append-drop, length-map, get_or_append_left}
 use Rattle.std.proofs.Math.Seq.{drop-length, take-length}
 use Rattle.std.proofs.lemmas.Bool.Decides.{nat_tests}
@@ -99,10 +99,10 @@ module _ {D : Type 0} (told_size : D → Option ℕ) (told_image : D → Option 
             (subst (Tracks told_size told_image may_leave d s.gate (payloads (take k h))) back holds.tracks);
       }
 
-  pub published : (d e : D) (s : Store) (g : Gate) (h : List Entry) (k : ℕ) → Holds told_size told_image may_leave d s h k
+  pub published : (d e : D) (s : Store) (g : Gate) (cap : s.chains.cap ≡ 2 ^ 28) (h : List Entry) (k : ℕ) → Holds told_size told_image may_leave d s h k
       → Tracks told_size told_image may_leave e g (payloads (take k h) ++ payloads (drop k h)) []
-      → Holds told_size told_image may_leave e (record { gate = g; chains = s.chains; pins = s.pins; oldest = s.oldest; texts = s.texts }) h (length h)
-  published d e s g h k holds tracks =
+      → Holds told_size told_image may_leave e (record { gate = g; chains = s.chains; pins = s.pins; oldest = s.oldest; texts = s.texts; cap = cap }) h (length h)
+  published d e s g cap h k holds tracks =
       let front : payloads (take k h) ++ payloads (drop k h) ≡ payloads (take (length h) h) = payloads_join h k ∙ ap payloads (sym (take-length h)) in
       let back : [] ≡ payloads (drop (length h) h) = ap payloads (sym (drop-length h)) in
       let whole : (payloads (take k h) ++ payloads (drop k h)) ++ [] ≡ payloads h = append-nil _ ∙ payloads_join h k in

@@ -1,5 +1,7 @@
 //! The store.
 
+ghost use Rattle.std.specs.Prelude.{◌≡◌, ◌^◌};
+
 mod committing;
 mod holding;
 mod opening;
@@ -23,6 +25,8 @@ pub struct Store {
     oldest: u32,
     // the number and the text of each Program entry
     texts: Vec<(u32, String)>,
+    // more than a log has writes
+    ghost cap: { chains.cap ≡ 2 ^ 28 },
 }
 
 /// Drops an entry, in one place for all its variants.

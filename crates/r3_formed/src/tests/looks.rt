@@ -2,7 +2,8 @@
 
 use super::{LOAD, PROGRAM, STARTED, payload_of, read_with};
 use crate::{flows_as_of, make_room, texts_between};
-use r3_rows::Key;
+use r3_chain::Chains;
+use r3_rows::{Cell, Key};
 use r3_value::Txt;
 use std::test::Fail;
 
@@ -44,11 +45,11 @@ fn entries_or_program_texts_are_kept(rt: HostRuntime) -> Result<(), Fail> {
 #[test]
 fn room_is_made_where_there_is_memory(rt: HostRuntime) -> Result<(), Fail> {
     let alloc = rt.alloc();
-    let mut read = read_with(alloc, &[PROGRAM], payload_of(alloc, &[LOAD])?, true)??;
+    let mut chains: Chains<Key, Cell> = Chains::new(alloc, 1);
     let mut keys = Vec::new(alloc);
     keys.push(Key::Flow {
         id: Txt::new(alloc, "s1")?,
     })?;
-    assert!(rt; make_room(alloc, &mut read.chains, keys).is_ok());
+    assert!(rt; make_room(alloc, &mut chains, keys).is_ok());
     Ok(())
 }

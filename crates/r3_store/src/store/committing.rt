@@ -13,7 +13,7 @@ ghost use Rattle.r3_chain.specs.Versions.{key_set};
 ghost use Rattle.r3_snap.specs.Conflicts.{keys_of, conflict_past};
 ghost use Rattle.r3_gate.specs.Gate.{Tracks};
 ghost use Rattle.r3_gate.specs.Log.{IsLog, IsPayload};
-ghost use Rattle.r3_formed.specs.Past.{AreReady, all_installed, first_conflict};
+ghost use Rattle.r3_formed.specs.Past.{AreReady, HasRoom, all_installed, first_conflict};
 ghost use Rattle.r3_formed.specs.Answers.{text_at, text_of};
 ghost use Rattle.r3_store.specs.Holds.{Stands, Holds, IsReadable, SameStore, MayFollow};
 
@@ -22,7 +22,7 @@ use crate::fault::CommitFault;
 use crate::store::let_go;
 use r3_desk::Desk;
 use r3_entry::{Entry, encode, first_committer_wins, formed_goes_on};
-use r3_formed::{history_goes_on, install_all, make_room, put_text};
+use r3_formed::{history_goes_on, install_all, make_room, put_text, versions_are_few};
 use r3_gate::{GateFault, Limit, reads_as_published};
 use r3_snap::{WriteSet, conflict};
 use r3_value::Memory;
@@ -31,7 +31,8 @@ use std::alloc::Global;
 impl Store {
     // Finds a conflict, and takes all the memory that a commit needs.
     fn prepare(&mut self, alloc: Global, entry: &Entry) -> Result<Vec<u8>, CommitFault>
-        requires { IsEntry entry.now }
+        requires limits { IsEntry entry.now }
+        requires room { HasRoom self.old.chains (length entry.now.writes) }
         ensures bytes { IfOk result (λ payload. payload.items ≡ spelled entry.now) }
         ensures room { OnOk result (self.new.chains.room
             ≡ key_set key_cmp (keys_of entry.now.writes)) }
@@ -211,6 +212,7 @@ impl Store {
         ensures ask_faults { D.ask_faults desk.new ≡ D.ask_faults desk.old }
     {
         reads_as_published::<D>();
+        versions_are_few();
         let payload = match self.prepare(alloc, &entry) {
             Ok(payload) => payload,
             Err(fault) => {

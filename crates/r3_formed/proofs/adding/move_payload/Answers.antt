@@ -1,6 +1,10 @@
 use Rattle.std.proofs.Common.{◌≡◌, ◌++◌, [], List, ℕ, ap, ◌∙◌, sym, subst}
 use Rattle.r3_entry.specs.Formed.{Follows}
+use Rattle.r3_formed.proofs.Capacity.{room_of}
 use Rattle.r3_formed.proofs.adding.move_payload.Goals as goal
+
+pub move_in-requires-clause-room : goal.move_in-requires-clause-room
+move_in-requires-clause-room c = room_of c.args.chains.now c.in-Ok.entry c.args.payload.now c.requires.room c.in-Ok.ensures.entry.1 c.requires.bytes
 
 pub returns-in-Ok-false-default-clause-unformed : goal.returns-in-Ok-false-default-clause-unformed
 returns-in-Ok-false-default-clause-unformed c = λ h same stand _ e is limits follows.

@@ -13,4 +13,5 @@ writes-preserved c =
       ready = rw (c.install_write.ensures.versions, c.install_write.ensures.room) s.2;
       goes = ap (all_installed c.args.index rest) c.install_write.ensures.versions
           ∙ ap (λ ws. all_installed c.args.index ws c.writes.chains.versions) (sym now) ∙ c.writes.invariant.goes;
+      cap = c.install_write.ensures.cap ∙ c.writes.invariant.cap;
     }

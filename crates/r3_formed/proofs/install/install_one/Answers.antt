@@ -19,4 +19,5 @@ pub returns : goal.returns
 returns c = record {
   versions = c.install.ensures.versions ∙ ap (λ (R : Key → Key → Ordering). installed R c.args.index c.args.key.now c.args.value c.args.chains.now.versions) same_cmp;
   room = c.install.ensures.room ∙ ap (λ (R : Key → Key → Ordering). without R c.args.key.now c.args.chains.now.room) same_cmp;
+  cap = c.install.ensures.cap;
 }

@@ -1,4 +1,4 @@
-use Rattle.std.proofs.Common.{◌≡◌, ◌+◌, ◌++◌, ◌∷◌, [], Err, length, ap, ◌∙◌, arith, true}
+use Rattle.std.proofs.Common.{◌≡◌, Err, length, ap, ◌∙◌, arith, true}
 use Rattle.r3_entry.specs.Bytes.{entry}
 use Rattle.r3_entry.specs.declared.fault.EntryFault.TheVariants as misses
 use Rattle.r3_entry.specs.Limits.{IsEntry}
@@ -20,6 +20,7 @@ returns-in-Ok-keep_entry-clause-ok c = λ h same loads room.
       record {
         formed = c.formed_goes_on.ensures h e loads.formed f.0 c.in-Ok.ensures.entry.0 (omega (arith, c.requires.bytes, long)) (omega (arith, c.requires.few, same)) (omega (arith, room, long));
         versions = f.1;
+        cap = c.add_entry.ensures.cap ∙ loads.cap;
         entries = c.in-Ok-keep_entry.ensures ∙ kept_more true c.args.loaded.now.entries.items h e loads.entries;
         texts = loads.texts;
       },

@@ -1,4 +1,4 @@
-use Rattle.std.proofs.Common.{◌≡◌, ◌+◌, ◌++◌, ◌∷◌, [], Err, length, map, ap, ◌∙◌, arith, false}
+use Rattle.std.proofs.Common.{◌≡◌, ◌+◌, ◌++◌, Err, length, map, ap, ◌∙◌, arith, false}
 use Rattle.r3_entry.specs.Bytes.{entry}
 use Rattle.r3_entry.specs.declared.fault.EntryFault.TheVariants as misses
 use Rattle.r3_entry.specs.Limits.{IsEntry}
@@ -20,6 +20,7 @@ returns-in-Ok-keep_text-clause-ok c = λ h same loads room.
       record {
         formed = c.formed_goes_on.ensures h m.0 loads.formed m.4 m.2 (omega (arith, c.requires.bytes, long)) (omega (arith, c.requires.few, same)) (omega (arith, room, long));
         versions = m.5;
+        cap = c.move_payload.ensures.cap ∙ loads.cap;
         entries = loads.entries;
         texts = c.in-Ok-keep_text.ensures ∙ ap (λ a. map text_of c.args.loaded.now.texts.items ++ text_at (c.args.count + 1) a) m.1
             ∙ texts_more false (map text_of c.args.loaded.now.texts.items) h m.0 c.args.count same loads.texts;

@@ -22,6 +22,15 @@ use Rattle.r3_store.proofs.Conflicts.{err_found, none_some}
 use Rattle.r3_store.proofs.Follows.{Logs, follows, held_on, numbers}
 use Rattle.r3_store.proofs.store.Store.commit.Goals as goal
 
+pub prepare-requires-clause-room : goal.prepare-requires-clause-room
+prepare-requires-clause-room g c =
+    let stands = c.requires.holds.2.stands in
+    omega (
+      arith,
+      c.versions_are_few.ensures c.args.self.now.chains.versions c.requires.holds.0 c.args.self.now.oldest c.args.entry stands.versions stands.formed.small c.requires.payload,
+      c.args.self.now.cap,
+    )
+
 pub append-requires-clause-payload : goal.append-requires-clause-payload
 append-requires-clause-payload g c =
     let long : length c.deref.result.now ≡ length (entry c.args.entry) = ap length (c.deref.ensures.value ∙ c.in-Ok.ensures.bytes) in

@@ -17,7 +17,7 @@ pub publish-requires : goal.publish-requires
 publish-requires g c = asks_publish _ _ _ _ _ c.requires.0 c.requires.1 c.requires.2 (sym c.has_staged.ensures ∙ c.if-not-has_staged.false)
 
 pub returns-in-Ok-clause-settled : goal.returns-in-Ok-clause-settled
-returns-in-Ok-clause-settled g c = λ h k holds. published _ _ _ _ _ _ _ h k holds (c.in-Ok.ensures.tracks _ _ holds.tracks)
+returns-in-Ok-clause-settled g c = λ h k holds. published _ _ _ _ _ _ _ _ h k holds (c.in-Ok.ensures.tracks _ _ holds.tracks)
 
 pub returns-in-Ok-clause-crash : goal.returns-in-Ok-clause-crash
 returns-in-Ok-clause-crash g c = λ h k holds. settles_to _ _ _ g.D.Desk.moment g.D.Desk.reach g.D.Desk.said g.D.Desk.asked _ _ _ h k holds (c.publish.ensures.crash _ _ holds.tracks)
