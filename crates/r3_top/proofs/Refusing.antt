@@ -1,5 +1,5 @@
 -- Calls that are refused before their work.
-use Rattle.std.proofs.Common.{◌≡◌, ◌⊎◌, inl, inr, ⊎_elim, ℕ, ◌<◌, ◌≤◌, ◌^◌, List, [], length, Option, Some, None, refl, sym, ◌∙◌, subst}
+use Rattle.std.proofs.Common.{◌≡◌, ◌⊎◌, inl, inr, ⊎_elim, ℕ, ◌<◌, ◌≤◌, ◌^◌, List, [], length, Option, Some, refl, sym, ◌∙◌, subst}
 use Rattle.std.specs.Prelude.{Result, Err, ⊤}
 use Rattle.std.specs.Option.{ForSome}
 use Rattle.fn_tree.specs.declared.program.Item.{Item}

@@ -1,11 +1,11 @@
-use Rattle.std.proofs.Common.{rules, ◌≡◌, ⊎_elim, inr, ◌≤◌, ◌^◌, List, length, string_bytes, refl, sym, ◌∙◌, subst}
+use Rattle.std.proofs.Common.{rules, ◌≡◌, inr, ◌≤◌, ◌^◌, List, length, string_bytes, refl, sym, ◌∙◌, subst}
 use Rattle.fn_tree.specs.declared.program.Item.{Item}
 use Rattle.r3_model.specs.Language.{Text}
 use Rattle.r3_recover.specs.Opened.{HasProgram}
 use Rattle.r3_serve.specs.Served.{Loud}
 use Rattle.r3_top.specs.declared.halt.Halt.TheVariants as halts
 use Rattle.r3_top.specs.Functions.{IsAccepted, IsRefused}
-use Rattle.r3_top.specs.Refusals.{IsFile, IsNoStore, IsOthers}
+use Rattle.r3_top.specs.Refusals.{IsFile, IsOthers}
 use Rattle.r3_top.proofs.Saying.{says-same}
 use Rattle.r3_top.proofs.Refusing.{at-fetch, at-accept, cause-fetch, cause-accept, is-file, no-fault-in, nothing-done, no-store, store-is-taken}
 use Rattle.r3_top.proofs.Generating.{gen-not-this}

@@ -9,6 +9,8 @@ use Rattle.r3_top.specs.Going.{RecoverGoes, GenGoes}
 use Rattle.r3_top.specs.Ends.{RecoverComes, GenComes, end_of}
 use Rattle.r3_top.proofs.Causing.{path-same}
 use Rattle.r3_top.proofs.Leaving.{unbegun-first}
+use Rattle.r3_top.specs.declared.halt.Halt.TheVariants as halts
+use Rattle.r3_top.proofs.Checking.{check-stopped}
 use Rattle.r3_top.proofs.command.command.Goals as goal
 
 -- ---- there is no memory to read the words
@@ -27,6 +29,11 @@ pub returns-in-Err-clause-gen_goes : goal.returns-in-Err-clause-gen_goes
 returns-in-Err-clause-gen_goes g c = λ number count image h at is history has.
     inl (unbegun-first g.D.Desk.image g.D.Desk.may_leave g.D.Desk.moment g.D.Desk.reach g.D.Desk.said g.D.Desk.asked c.args.desk.now h image
     (g.met.D.Desk.counts_now c.args.desk.now) (g.met.D.Desk.only_now c.args.desk.now) c.requires is history)
+
+pub returns-in-Err-clause-check_goes : goal.returns-in-Err-clause-check_goes
+returns-in-Err-clause-check_goes g c = λ functions text at there.
+    check-stopped g.D.Desk.image g.D.Desk.may_leave g.D.Desk.moment g.D.Desk.reach g.D.Desk.said g.D.Desk.asked g.D.Desk.syncs c.args.desk.now
+    (g.met.D.Desk.counts_now c.args.desk.now) (g.met.D.Desk.only_now c.args.desk.now) c.requires text halts.Memory tt
 
 -- ---- the commands
 
@@ -49,6 +56,11 @@ returns-in-Gen-clause-gen_goes g c = λ number count image h at is history has.
     subst (λ (n : ℕ). GenGoes g.D.Desk.image g.D.Desk.may_leave g.D.Desk.moment g.D.Desk.reach g.D.Desk.said g.D.Desk.asked c.args.desk.now c.generate.new.desk BANK.now h n count (end_of c.generate.result) []) first
     (subst (λ (n : ℕ). GenGoes g.D.Desk.image g.D.Desk.may_leave g.D.Desk.moment g.D.Desk.reach g.D.Desk.said g.D.Desk.asked c.args.desk.now c.generate.new.desk BANK.now h c.in-Gen.number n (end_of c.generate.result) []) many
     (c.generate.ensures.goes image h is history has))
+
+pub returns-in-Check-clause-check_goes : goal.returns-in-Check-clause-check_goes
+returns-in-Check-clause-check_goes g c = λ functions text at there.
+    let same : c.in-Check.functions.now ≡ functions = search (rules, at) in
+    c.check.ensures.goes text (subst (λ (p : Text). g.F.Shelf.text_of c.args.shelf.now p ≡ Some text) (sym same) there)
 
 pub returns-in-Recover-clause-recovers : goal.returns-in-Recover-clause-recovers
 returns-in-Recover-clause-recovers g c = λ functions text turns at there.
