@@ -5,7 +5,8 @@ use Rattle.r3_value.specs.declared.value.Outcome.{Outcome}
 use Rattle.r3_entry.specs.declared.entry.Entry.{Entry}
 use Rattle.r3_entry.specs.Image.{IsHistoryOf}
 use Rattle.r3_desk.specs.Asked as desk
-use Rattle.r3_desk.specs.Crash.{Reach}
+use Rattle.r3_desk.specs.Crash.{NothingPending, Reach}
+use Rattle.r3_desk.specs.Moments.{LeavesImage}
 use Rattle.r3_formed.specs.Answers.{program_texts}
 use Rattle.r3_store.specs.Opened.{IsCaused, IsStopped}
 use Rattle.r3_store.specs.declared.fault.OpenFault.{OpenFault}
@@ -53,3 +54,16 @@ HasCause image text starts.Memory = ⊤
 -- the disk has failed, or there was no memory
 abbrev pub IsHalted : StartFault → Type 0
 IsHalted fault = (fault ≡ starts.Disk) ⊎ (fault ≡ starts.Memory)
+
+-- ---- a disk that is left alone
+
+-- no store, or one of another program
+abbrev pub IsNoneOf : Text → List ℕ → Type 0
+IsNoneOf text image = (h : List Entry) → IsHistoryOf h image → HasProgram h text → ⊥
+
+-- The disk was read at most: it reads as it did, and so does a crash leave it, at any moment and now.
+pub record WasRead {D : Type 0} (told_image : D → Option (List ℕ)) (may_leave : D → List ℕ → Type 0) (moment : D → ℕ) (reach : D → Reach) (said : D → Option (List ℕ)) (asked : D → Option (List desk.Call)) (syncs : D → Option ℕ) (old new : D) : Type 0 where
+  pub image : told_image new ≡ told_image old
+  pub quiet : NothingPending (told_image new) (may_leave new)
+  pub leaves : LeavesImage moment reach may_leave said asked old new (λ c. told_image old ≡ Some c)
+  pub same_syncs : syncs new ≡ syncs old

@@ -9,7 +9,7 @@ ghost use Rattle.r3_entry.specs.declared.entry.Entry.{Entry};
 ghost use Rattle.r3_entry.specs.Image.{IsHistoryOf};
 ghost use Rattle.r3_store.specs.Holds.{Stands};
 ghost use Rattle.r3_exec.specs.Does.{SyncsWithin};
-ghost use Rattle.r3_recover.specs.Opened.{HasOpened, HasProgram, HasCause, IsHalted};
+ghost use Rattle.r3_recover.specs.Opened.{HasOpened, HasProgram, HasCause, IsHalted, IsNoneOf, WasRead};
 ghost use Rattle.r3_recover.specs.Recovering.{IsTaken, told_fault};
 
 use crate::beginning::begin_exec;
@@ -69,11 +69,10 @@ fn take_up<D: Desk>(
     ensures reads { (from : D) (h : List Entry) →
         IsTaken D.size D.image D.may_leave D.moment D.reach D.said D.asked D.syncs from desk.old store h →
         ForSome (D.image desk.new) (IsHistoryOf h) }
-    ensures other_kept { result ≡ Err StartFault.Other → D.image desk.new ≡ D.image desk.old }
+    ensures other_alone { result ≡ Err StartFault.Other → desk.new ≡ desk.old }
     ensures not_store { (fault : _) → result ≡ Err (StartFault.Store fault) → ⊥ }
     ensures program { IfOk result (λ exec. exec.program ≡ program) }
     ensures few_syncs { SyncsWithin (D.syncs desk.old) (D.syncs desk.new) 1 }
-    ensures other_syncs { result ≡ Err StartFault.Other → D.syncs desk.new ≡ D.syncs desk.old }
     ensures other { (h : List Entry) → Stands store h → (HasProgram h text.now → ⊥) → result ≡ Err StartFault.Other }
     ensures opens { (h : List Entry) → Stands store h → HasProgram h text.now → IfErr result IsHalted }
     ensures disk { IsErrOf result StartFault.Disk → Rose (D.disk_faults desk.old) (D.disk_faults desk.new) }
@@ -126,6 +125,10 @@ pub fn open_exec<D: Desk>(
         ForSome (D.image desk.new) (IsHistoryOf h)) }
     ensures kept { (fault : _) → result ≡ Err (StartFault.Store fault) → D.image desk.new ≡ D.image desk.old }
     ensures other_kept { result ≡ Err StartFault.Other → D.image desk.new ≡ D.image desk.old }
+
+    // Where the file is no store, or one of another program, it is left alone, whatever is answered.
+    ensures alone { ForSome (D.image desk.old) (λ i. IsNoneOf text.now i →
+        WasRead D.image D.may_leave D.moment D.reach D.said D.asked D.syncs desk.old desk.new) }
 
     // The header of a new file costs a sync, and nothing else does.
     ensures few_syncs { SyncsWithin (D.syncs desk.old) (D.syncs desk.new) 1 }

@@ -7,7 +7,7 @@ ghost use Rattle.r3_desk.specs.Crash.{NothingPending};
 ghost use Rattle.r3_entry.specs.declared.entry.Entry.{Entry};
 ghost use Rattle.r3_entry.specs.Image.{IsHistoryOf};
 ghost use Rattle.r3_model.specs.Functions.{language_of};
-ghost use Rattle.r3_recover.specs.Opened.{HasProgram, HasCause, IsHalted};
+ghost use Rattle.r3_recover.specs.Opened.{HasProgram, HasCause, IsHalted, IsNoneOf, WasRead};
 ghost use Rattle.r3_session.specs.Begun.{StopsOpening};
 ghost use Rattle.r3_serve.specs.Served.{Voice, Served};
 
@@ -42,6 +42,11 @@ pub fn open<D: Desk>(
         OnErr result (StopsOpening D.image D.moment D.reach D.said D.asked (language_of program) desk.old desk.new text.now h)) }
     ensures kept { (fault : _) → result ≡ Err (StartFault.Store fault) → D.image desk.new ≡ D.image desk.old }
     ensures other_kept { result ≡ Err StartFault.Other → D.image desk.new ≡ D.image desk.old }
+
+    // Where the file is no store, or one of another program, it is left alone, whatever is answered.
+    ensures alone { ForSome (D.image desk.old) (λ i. IsNoneOf text.now i →
+        WasRead D.image D.may_leave D.moment D.reach D.said D.asked D.syncs desk.old desk.new) }
+
     ensures disk { IsErrOf result StartFault.Disk → Rose (D.disk_faults desk.old) (D.disk_faults desk.new) }
     ensures no_fault { (IsErrOf result StartFault.Disk → ⊥) → D.disk_faults desk.new ≡ D.disk_faults desk.old }
     ensures said { D.said desk.new ≡ D.said desk.old }

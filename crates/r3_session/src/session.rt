@@ -12,7 +12,7 @@ ghost use Rattle.r3_model.specs.Machine.{State};
 ghost use Rattle.r3_exec.specs.Does.{SyncsWithin};
 ghost use Rattle.r3_exec.specs.Runs.{Runs, language};
 ghost use Rattle.r3_recover.specs.Drained.{Raised};
-ghost use Rattle.r3_recover.specs.Opened.{HasProgram, HasCause, IsHalted};
+ghost use Rattle.r3_recover.specs.Opened.{HasProgram, HasCause, IsHalted, IsNoneOf, WasRead};
 ghost use Rattle.r3_session.specs.Answered.{DoesLine, StopsLine};
 ghost use Rattle.r3_lines.specs.Lines.{as_line, IsKept};
 ghost use Rattle.r3_session.specs.Begun.{HasBegun, StopsOpening};
@@ -83,6 +83,11 @@ impl Session {
         ensures few_syncs { SyncsWithin (D.syncs desk.old) (D.syncs desk.new) 3 }
         ensures kept { (fault : _) → result ≡ Err (StartFault.Store fault) → D.image desk.new ≡ D.image desk.old }
         ensures other_kept { result ≡ Err StartFault.Other → D.image desk.new ≡ D.image desk.old }
+
+        // Where the file is no store, or one of another program, it is left alone, whatever is answered.
+        ensures alone { ForSome (D.image desk.old) (λ i. IsNoneOf text.now i →
+            WasRead D.image D.may_leave D.moment D.reach D.said D.asked D.syncs desk.old desk.new) }
+
         ensures disk { IsErrOf result StartFault.Disk → Rose (D.disk_faults desk.old) (D.disk_faults desk.new) }
         ensures no_fault { (IsErrOf result StartFault.Disk → ⊥) → D.disk_faults desk.new ≡ D.disk_faults desk.old }
         ensures said { D.said desk.new ≡ D.said desk.old }

@@ -7,7 +7,7 @@ use Rattle.r3_entry.specs.Image.{IsHistoryOf}
 use Rattle.r3_store.specs.declared.fault.OpenFault.{OpenFault}
 use Rattle.r3_exec.specs.declared.exec.Exec.{Exec}
 use Rattle.r3_exec.proofs.Syncs.{no_more}
-use Rattle.r3_recover.specs.Opened.{HasCause, HasProgram, IsHalted}
+use Rattle.r3_recover.specs.Opened.{HasCause, HasProgram, IsHalted, WasRead}
 use Rattle.r3_recover.specs.Recovering.{told_fault}
 use Rattle.r3_recover.specs.declared.ends.StartFault.{StartFault}
 use Rattle.r3_recover.specs.declared.ends.StartFault.TheVariants.{Store, Other, Disk, Memory}
@@ -71,6 +71,19 @@ returns-in-Ok-clause-reads g c = λ h i told is j read.
     let t = taken g.D.Desk.size g.D.Desk.image g.D.Desk.may_leave g.D.Desk.moment g.D.Desk.reach g.D.Desk.said g.D.Desk.asked g.D.Desk.syncs
     c.args.desk.now c.open.new.desk c.in-Ok.store o.0 o.1 c.open.ensures.crash c.open.ensures.image c.open.ensures.said c.open.ensures.asked c.open.ensures.syncs in
     subst (λ (es : List Entry). IsHistoryOf es j) (c.one_history.ensures i o.0 h (t.is_history i told) is) (c.take_up.ensures.reads c.args.desk.now o.0 t j read)
+
+pub returns-in-Ok-clause-alone : goal.returns-in-Ok-clause-alone
+returns-in-Ok-clause-alone g c = λ i told none.
+    let o = c.in-Ok.ensures.ok in
+    let same = c.take_up.ensures.other_alone
+    (c.take_up.ensures.other o.0 o.1.holds.stands (none o.0 (o.1.told i (c.open.ensures.image ∙ told)))) in
+    subst (λ (d : g.row.D.Denot). WasRead g.D.Desk.image g.D.Desk.may_leave g.D.Desk.moment g.D.Desk.reach g.D.Desk.said g.D.Desk.asked g.D.Desk.syncs c.args.desk.now d)
+    (sym same)
+    (record { image = c.open.ensures.image; quiet = c.open.ensures.quiet; leaves = c.open.ensures.crash; same_syncs = c.open.ensures.syncs })
+
+pub returns-in-Err-clause-alone : goal.returns-in-Err-clause-alone
+returns-in-Err-clause-alone g c = λ i told none.
+    record { image = c.open.ensures.image; quiet = c.open.ensures.quiet; leaves = c.open.ensures.crash; same_syncs = c.open.ensures.syncs }
 
 pub returns-in-Err-clause-opens : goal.returns-in-Err-clause-opens
 returns-in-Err-clause-opens g c = λ h i told is has.

@@ -47,3 +47,18 @@ returns-in-Err-Memory-clause-few_syncs g c = few-then (g.D.Desk.syncs c.args.des
 
 pub returns-in-Err-clause-few_syncs : goal.returns-in-Err-clause-few_syncs
 returns-in-Err-clause-few_syncs g c = few-more (g.D.Desk.syncs c.args.desk.now) (g.D.Desk.syncs c.open_exec.new.desk) 1 3 (omega arith) c.open_exec.ensures.few_syncs
+
+pub returns-in-Ok-settle-clause-alone : goal.returns-in-Ok-settle-clause-alone
+returns-in-Ok-settle-clause-alone g c = λ i told none.
+    let o = c.in-Ok.ensures.does in
+    absurd (none o.history (o.is_history i told) o.same)
+
+pub returns-in-Err-Disk-clause-alone : goal.returns-in-Err-Disk-clause-alone
+returns-in-Err-Disk-clause-alone g c = λ i told none.
+    let o = c.in-Ok.ensures.does in
+    absurd (none o.history (o.is_history i told) o.same)
+
+pub returns-in-Err-Memory-clause-alone : goal.returns-in-Err-Memory-clause-alone
+returns-in-Err-Memory-clause-alone g c = λ i told none.
+    let o = c.in-Ok.ensures.does in
+    absurd (none o.history (o.is_history i told) o.same)
