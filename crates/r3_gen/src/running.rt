@@ -11,7 +11,7 @@ ghost use Rattle.r3_model.specs.Generator.{generated};
 ghost use Rattle.r3_model.specs.Language.{Text};
 ghost use Rattle.r3_exec.specs.Runs.{language};
 ghost use Rattle.r3_exec.specs.declared.exec.Exec.{Exec};
-ghost use Rattle.r3_recover.specs.Opened.{HasProgram, HasCause, IsHalted};
+ghost use Rattle.r3_recover.specs.Opened.{HasProgram, HasCause, IsHalted, IsNoneOf, WasRead};
 ghost use Rattle.r3_session.specs.Begun.{StopsOpening};
 ghost use Rattle.r3_serve.specs.Served.{Quiet, Served};
 ghost use Rattle.r3_gen.specs.Ran.{Ran, SummaryFailed, EndsEarly};
@@ -98,6 +98,11 @@ pub fn run<D: Desk>(
         StopsOpening D.image D.moment D.reach D.said D.asked (language_of program) desk.old desk.new text.now h) }
     ensures kept { (fault : _) → result ≡ Err (GenFault.Start (StartFault.Store fault)) → D.image desk.new ≡ D.image desk.old }
     ensures other_kept { result ≡ Err (GenFault.Start StartFault.Other) → D.image desk.new ≡ D.image desk.old }
+
+    // Where the file is no store, or one of another program, it is left alone, whatever is answered.
+    ensures alone { ForSome (D.image desk.old) (λ i. IsNoneOf text.now i →
+        WasRead D.image D.may_leave D.moment D.reach D.said D.asked D.syncs desk.old desk.new) }
+
     ensures unsaid { (fault : StartFault) → result ≡ Err (GenFault.Start fault) → D.said desk.new ≡ D.said desk.old }
     ensures unasked { (fault : StartFault) → result ≡ Err (GenFault.Start fault) → D.asked desk.new ≡ D.asked desk.old }
 

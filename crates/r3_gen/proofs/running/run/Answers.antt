@@ -77,3 +77,23 @@ returns-clause-say_whole g c = λ _.
           (ap (λ is. language_of is) c.in-Ok.ensures.program)
           (c.in-Err-Say.ensures.say_whole c.args.desk.now c.args.text.now o.0 o.3 (ap (λ (f : ServeFault). Err f) c.in-Err-Say.field-0-is)),
     )
+
+pub returns-in-Ok-run_opened-clause-alone : goal.returns-in-Ok-run_opened-clause-alone
+returns-in-Ok-run_opened-clause-alone g c = λ i told none.
+    let o = c.in-Ok.ensures.serves Quiet in
+    absurd (none o.0 (o.1 i told) o.2)
+
+pub returns-in-Err-Disk-clause-alone : goal.returns-in-Err-Disk-clause-alone
+returns-in-Err-Disk-clause-alone g c = λ i told none.
+    let o = c.in-Ok.ensures.serves Quiet in
+    absurd (none o.0 (o.1 i told) o.2)
+
+pub returns-in-Err-Memory-clause-alone : goal.returns-in-Err-Memory-clause-alone
+returns-in-Err-Memory-clause-alone g c = λ i told none.
+    let o = c.in-Ok.ensures.serves Quiet in
+    absurd (none o.0 (o.1 i told) o.2)
+
+pub returns-clause-alone : goal.returns-clause-alone
+returns-clause-alone g c = λ i told none.
+    let o = c.in-Ok.ensures.serves Quiet in
+    absurd (none o.0 (o.1 i told) o.2)
