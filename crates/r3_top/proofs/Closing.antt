@@ -226,27 +226,6 @@ module _ {D : Type 0} (image : D → Option Text) (may_leave : D → Text → Ty
       (goes-line text h (OfGenerated image may_leave moment reach said asked from mid text h number count) (OfGenerated image may_leave moment reach said asked from now text h number count) halt
       (λ P last w. absurd w))
 
-  -- ---- a call that goes no further than a refusal
-
-  store-line : (text : Text) (halt : Halt) → (last : SaysLast image may_leave moment reach said asked mid now halt answer)
-      → EndsAtStore image said asked from mid text (Some halt) [] → EndsAtStore image said asked from now text (Some halt) last.line
-  store-line text halts.Memory last e = absurd (last.spoken refl)
-  store-line text halts.Disk last e = absurd (last.spoken refl)
-  store-line text halts.Usage last e = (e.0, says-then image said asked from mid now [] last.line e.1 last.says)
-  store-line text halts.Say last e = (e.0, says-then image said asked from mid now [] last.line e.1 last.says)
-  store-line text halts.Files last e = (e.0, says-then image said asked from mid now [] last.line e.1 last.says)
-  store-line text halts.Script last e = (e.0, says-then image said asked from mid now [] last.line e.1 last.says)
-  store-line text halts.Program last e = (e.0, says-then image said asked from mid now [] last.line e.1 last.says)
-  store-line text halts.LongFile last e = (e.0, says-then image said asked from mid now [] last.line e.1 last.says)
-  store-line text halts.LongScript last e = (e.0, says-then image said asked from mid now [] last.line e.1 last.says)
-  store-line text (halts.Functions f) last e = (e.0, says-then image said asked from mid now [] last.line e.1 last.says)
-  store-line text (halts.Store n) last e = (e.0, says-then image said asked from mid now [] last.line e.1 last.says)
-
-  pub store-ends : (text : Text) (halt : Halt) → EndsAtOnce image may_leave moment reach said asked mid now halt answer
-      → EndsAtStore image said asked from mid text (Some halt) [] → GoesAs (EndsAtStore image said asked from now text) answer
-  store-ends text halt = goes-as (EndsAtStore image said asked from mid text) (EndsAtStore image said asked from now text) halt
-      (λ same old. subst (λ (d : D). EndsAtStore image said asked from d text (Some halt) []) (sym same) old) (store-line text halt)
-
 -- the same with the syncs
 module _ {D : Type 0} (image : D → Option Text) (may_leave : D → Text → Type 0) (moment : D → ℕ) (reach : D → Reach) (said : D → Option Text) (asked : D → Option (List desk.Call)) (syncs : D → Option ℕ) (from mid now : D) (unsynced : syncs now ≡ syncs mid) (answer : ℕ) where
   -- a last line leaves the disk alone
@@ -280,3 +259,33 @@ module _ {D : Type 0} (image : D → Option Text) (may_leave : D → Text → Ty
       → GoesAs (CheckGoes image may_leave moment reach said asked syncs from now text) answer
   check-goes text halt = goes-as image may_leave moment reach said asked from mid now answer (CheckGoes image may_leave moment reach said asked syncs from mid text) (CheckGoes image may_leave moment reach said asked syncs from now text) halt
       (λ same old. subst (λ (d : D). CheckGoes image may_leave moment reach said asked syncs from d text (Some halt) []) (sym same) old) (check-line text halt)
+
+  -- ---- a call that goes no further than a refusal
+
+  store-line : (text : Text) (halt : Halt) → (last : SaysLast image may_leave moment reach said asked mid now halt answer)
+      → EndsAtStore image may_leave moment reach said asked syncs from mid text (Some halt) [] → EndsAtStore image may_leave moment reach said asked syncs from now text (Some halt) last.line
+  store-line text halts.Memory last e = absurd (last.spoken refl)
+  store-line text halts.Disk last e = absurd (last.spoken refl)
+  store-line text halts.Usage last e =
+      ((e.0.0, says-then image said asked from mid now [] last.line e.0.1 last.says), untouched-line halts.Usage [] e.0.1.told e.0.1.asks last e.1)
+  store-line text halts.Say last e =
+      ((e.0.0, says-then image said asked from mid now [] last.line e.0.1 last.says), untouched-line halts.Say [] e.0.1.told e.0.1.asks last e.1)
+  store-line text halts.Files last e =
+      ((e.0.0, says-then image said asked from mid now [] last.line e.0.1 last.says), untouched-line halts.Files [] e.0.1.told e.0.1.asks last e.1)
+  store-line text halts.Script last e =
+      ((e.0.0, says-then image said asked from mid now [] last.line e.0.1 last.says), untouched-line halts.Script [] e.0.1.told e.0.1.asks last e.1)
+  store-line text halts.Program last e =
+      ((e.0.0, says-then image said asked from mid now [] last.line e.0.1 last.says), untouched-line halts.Program [] e.0.1.told e.0.1.asks last e.1)
+  store-line text halts.LongFile last e =
+      ((e.0.0, says-then image said asked from mid now [] last.line e.0.1 last.says), untouched-line halts.LongFile [] e.0.1.told e.0.1.asks last e.1)
+  store-line text halts.LongScript last e =
+      ((e.0.0, says-then image said asked from mid now [] last.line e.0.1 last.says), untouched-line halts.LongScript [] e.0.1.told e.0.1.asks last e.1)
+  store-line text (halts.Functions f) last e =
+      ((e.0.0, says-then image said asked from mid now [] last.line e.0.1 last.says), untouched-line (halts.Functions f) [] e.0.1.told e.0.1.asks last e.1)
+  store-line text (halts.Store n) last e =
+      ((e.0.0, says-then image said asked from mid now [] last.line e.0.1 last.says), untouched-line (halts.Store n) [] e.0.1.told e.0.1.asks last e.1)
+
+  pub store-ends : (text : Text) (halt : Halt) → EndsAtOnce image may_leave moment reach said asked mid now halt answer
+      → EndsAtStore image may_leave moment reach said asked syncs from mid text (Some halt) [] → GoesAs (EndsAtStore image may_leave moment reach said asked syncs from now text) answer
+  store-ends text halt = goes-as image may_leave moment reach said asked from mid now answer (EndsAtStore image may_leave moment reach said asked syncs from mid text) (EndsAtStore image may_leave moment reach said asked syncs from now text) halt
+      (λ same old. subst (λ (d : D). EndsAtStore image may_leave moment reach said asked syncs from d text (Some halt) []) (sym same) old) (store-line text halt)

@@ -10,6 +10,7 @@ use Rattle.r3_desk.specs.Moments.{LeavesImage, started, elapses_then}
 use Rattle.r3_model.specs.Language.{Text}
 use Rattle.r3_model.specs.Held.{Mark}
 use Rattle.r3_model.specs.Functions.{language_of}
+use Rattle.r3_recover.specs.Opened.{WasRead}
 use Rattle.r3_session.specs.Begun.{StopsOpening}
 use Rattle.r3_serve.specs.Held.{LeavesHeld}
 use Rattle.r3_top.specs.Answered.{LeavesPrefix, Untouched}
@@ -86,6 +87,30 @@ module _ {D : Type 0} (image : D → Option Text) (may_leave : D → Text → Ty
   }
 
 module _ {D : Type 0} (image : D → Option Text) (may_leave : D → Text → Type 0) (moment : D → ℕ) (reach : D → Reach) (said : D → Option Text) (asked : D → Option (List desk.Call)) (syncs : D → Option ℕ) where
+  -- an opening that has read at most
+  pub untouched-read : (from now : D) → WasRead image may_leave moment reach said asked syncs from now → said now ≡ said from → asked now ≡ asked from
+      → Untouched image may_leave moment reach said asked syncs from now
+  untouched-read from now w same_said same_asked = record {
+    stored = w.image;
+    unsynced = w.same_syncs;
+    settled = λ c may. sym w.image ∙ w.quiet c may;
+    leaves = record {
+      elapses = w.leaves.elapses;
+      each = λ c n m r.
+          let x = w.leaves.each c n m r in
+          let below : n ≤ told_len (said from) = omega (arith, x.1) in
+          let behind : m ≤ told_len (asked from) = omega (arith, x.2) in (
+            (
+              omega (arith, x.1),
+              (let S : Option Text → Type 0 = λ s. n ≤ told_len s in subst S (sym same_said) below),
+              omega (arith, x.2),
+              (let S : Option (List desk.Call) → Type 0 = λ s. m ≤ told_len s in subst S (sym same_asked) behind),
+            ),
+            x.0,
+          );
+    };
+  }
+
   pub untouched-first : (d : D)
       → ((t : ℕ) (c : Text) → t ≤ moment d → may_leave d c → reach d t c (told_len (said d)) (told_len (asked d)))
       → ((c : Text) (n m : ℕ) → reach d (moment d) c n m → may_leave d c × (n ≡ told_len (said d)) × (m ≡ told_len (asked d)))

@@ -88,7 +88,7 @@ pub fn command<D: Desk, S: Source, F: Shelf>(
     ensures store_first { (form : Form) (text image : Text) → asked_by (map string_bytes words.now) ≡ Some form →
         functions_text (F.text_of shelf.old) BANK.now form ≡ Some text → OnStore form ⊤ → D.image desk.old ≡ Some image →
         (IsReady text (Some image) → ⊥) → (script.new ≡ script.old)
-        × EndsAtStore D.image D.said D.asked desk.old desk.new text (end_of result) [] }
+        × EndsAtStore D.image D.may_leave D.moment D.reach D.said D.asked D.syncs desk.old desk.new text (end_of result) [] }
 
     // Each fault has its cause.
     ensures usage { result ≡ Err Halt.Usage → asked_by (map string_bytes words.now) ≡ None }

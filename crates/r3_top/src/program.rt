@@ -116,9 +116,6 @@ pub fn top<D: Desk, S: Source, F: Shelf>(
         asked_by (map string_bytes words.now) ≡ Some (gen_form number count) →
         D.image desk.old ≡ Some image → IsHistoryOf h image → HasProgram h BANK.now →
         GoesAs (GenGoes D.image D.may_leave D.moment D.reach D.said D.asked desk.old desk.new BANK.now h number count) result }
-    ensures check_goes { (functions text : Text) → asked_by (map string_bytes words.now) ≡ Some (check_form functions) →
-        F.text_of shelf.old functions ≡ Some text →
-        GoesAs (CheckGoes D.image D.may_leave D.moment D.reach D.said D.asked D.syncs desk.old desk.new text) result }
 
     // Where the output has failed, all that was to be said before was said, and nothing else.
     ensures run_say_whole { (functions text image lines : Text) (h : List Entry) →
@@ -135,6 +132,12 @@ pub fn top<D: Desk, S: Source, F: Shelf>(
         asked_by (map string_bytes words.now) ≡ Some (gen_form number count) →
         D.image desk.old ≡ Some image → IsHistoryOf h image → HasProgram h BANK.now → result ≡ 5 →
         FailsToSay (GenGoes D.image D.may_leave D.moment D.reach D.said D.asked desk.old desk.new BANK.now h number count) }
+
+    // However a check ends, it has said the counts or a first part of them, or nothing but its last line, and the disk is
+    // as it was.
+    ensures check_goes { (functions text : Text) → asked_by (map string_bytes words.now) ≡ Some (check_form functions) →
+        F.text_of shelf.old functions ≡ Some text →
+        GoesAs (CheckGoes D.image D.may_leave D.moment D.reach D.said D.asked D.syncs desk.old desk.new text) result }
     ensures check_say_whole { (functions text : Text) → asked_by (map string_bytes words.now) ≡ Some (check_form functions) →
         F.text_of shelf.old functions ≡ Some text → result ≡ 5 →
         FailsToSay (CheckGoes D.image D.may_leave D.moment D.reach D.said D.asked D.syncs desk.old desk.new text) }
@@ -168,7 +171,7 @@ pub fn top<D: Desk, S: Source, F: Shelf>(
     ensures refused_first { (form : Form) (text image : Text) → asked_by (map string_bytes words.now) ≡ Some form →
         functions_text (F.text_of shelf.old) BANK.now form ≡ Some text → OnStore form ⊤ → D.image desk.old ≡ Some image →
         (IsReady text (Some image) → ⊥) → (script.new ≡ script.old)
-        × GoesAs (EndsAtStore D.image D.said D.asked desk.old desk.new text) result }
+        × GoesAs (EndsAtStore D.image D.may_leave D.moment D.reach D.said D.asked D.syncs desk.old desk.new text) result }
 
     // Each status has its cause, and each cause its status: what stands first in the way is told, and 0 where nothing
     // does, unless something fails or there is no memory.

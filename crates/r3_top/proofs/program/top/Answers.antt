@@ -148,12 +148,12 @@ returns-in-Err-clause-file_first g c = λ form text at there none.
     )
 
 pub returns-in-Ok-clause-refused_first : goal.returns-in-Ok-clause-refused_first
-returns-in-Ok-clause-refused_first g c = λ form text image at there opens is none. absurd (c.in-Ok.ensures.store_first form text image at there opens is none).1.0
+returns-in-Ok-clause-refused_first g c = λ form text image at there opens is none. absurd (c.in-Ok.ensures.store_first form text image at there opens is none).1.0.0
 
 pub returns-in-Err-clause-refused_first : goal.returns-in-Err-clause-refused_first
 returns-in-Err-clause-refused_first g c = λ form text image at there opens is none.
     let x = c.in-Err.ensures.store_first form text image at there opens is none in
-    (x.0, store-ends g.D.Desk.image g.D.Desk.may_leave g.D.Desk.moment g.D.Desk.reach g.D.Desk.said g.D.Desk.asked c.args.desk.now c.command.new.desk c.end.new.desk c.end.result text c.in-Err.halt c.end.ensures.closes x.1)
+    (x.0, store-ends g.D.Desk.image g.D.Desk.may_leave g.D.Desk.moment g.D.Desk.reach g.D.Desk.said g.D.Desk.asked g.D.Desk.syncs c.args.desk.now c.command.new.desk c.end.new.desk c.end.ensures.neither.no_sync c.end.result text c.in-Err.halt c.end.ensures.closes x.1)
 
 -- ---- the statuses
 
