@@ -1,8 +1,7 @@
 -- The causes of each status.
-use Rattle.std.proofs.Common.{◌≡◌, ◌⊎◌, inl, inr, ⊎_elim, ℕ, ◌<◌, ◌^◌, List, length, Option, Some, None, refl, sym, ◌∙◌, subst, arith}
+use Rattle.std.proofs.Common.{◌≡◌, ◌⊎◌, inl, inr, ⊎_elim, ℕ, ◌<◌, ◌^◌, length, Option, Some, None, refl, sym, ◌∙◌, subst, arith}
 use Rattle.std.specs.Prelude.{Result, Ok, Err}
 use Rattle.std.specs.Option.{ForSome}
-use Rattle.fn_tree.specs.declared.program.Item.{Item}
 use Rattle.r3_words.specs.Forms.{Form, run, recover, trace, replay, retro, check, gen}
 use Rattle.r3_model.specs.Language.{Text}
 use Rattle.r3_top.specs.declared.functions.FunctionsFault.{FunctionsFault}
@@ -10,7 +9,7 @@ use Rattle.r3_top.specs.Commands.{OnStore, OnScript, file_of, functions_text}
 use Rattle.r3_top.specs.Functions.{IsRefused}
 use Rattle.r3_top.specs.Statuses.{status_of}
 use Rattle.r3_top.specs.Refusals.{IsFunctionFile, IsNoStore, IsOthers}
-use Rattle.r3_top.specs.Causes.{HasCause, IsTaken, IsReady, IsBegun, HasStore, HasScript}
+use Rattle.r3_top.specs.Causes.{HasCause, IsTaken, IsReady, HasStore, HasScript}
 use Rattle.r3_top.specs.declared.halt.Halt.{Halt}
 use Rattle.r3_top.specs.declared.halt.Halt.TheVariants as halts
 

@@ -13,18 +13,14 @@ use Rattle.r3_exec.specs.Does.{told_after, told_of}
 use Rattle.r3_serve.specs.Served.{Loud, said_of}
 use Rattle.r3_serve.specs.Scripted.{ended_script_lines}
 use Rattle.r3_top.specs.Statuses.{status_of, last_line, HasLine, IsBroken, IsFault, GoesAs}
-use Rattle.r3_top.specs.Answered.{Answered}
-use Rattle.r3_top.specs.Going.{Unbegun, Goes, OfScript, OfDrain, OfGenerated, RunGoes, RecoverGoes, GenGoes}
-use Rattle.r3_top.specs.Ends.{Comes, RunComes, RunWork, RecoverComes, RecoverWork, GenComes, GenWork, CheckComes, EndsAs}
+use Rattle.r3_top.specs.Answered.{Answered, Untouched}
+use Rattle.r3_top.specs.Going.{Unbegun, Goes, OfScript, OfDrain, OfGenerated, RunGoes, RecoverGoes, GenGoes, CheckGoes}
+use Rattle.r3_top.specs.Ends.{Comes, RunComes, RunWork, RecoverComes, RecoverWork, GenComes, GenWork, EndsAs}
 use Rattle.r3_top.specs.Closes.{SaysLast, EndsAtOnce, EndsAtStore}
 use Rattle.r3_top.specs.declared.halt.Halt.{Halt}
 use Rattle.r3_top.specs.declared.halt.Halt.TheVariants as halts
-use Rattle.r3_top.proofs.Saying.{push-both, says-then}
-use Rattle.r3_top.proofs.Leaving.{leaves-more}
-
-push-up : (told : Option Text) (more : Text) → told_len told ≤ told_len (told_push told more)
-push-up None more = omega arith
-push-up (Some t) more = omega (arith, length-append t more)
+use Rattle.r3_top.proofs.Saying.{push-both, push-up, says-then}
+use Rattle.r3_top.proofs.Leaving.{leaves-more, untouched-more}
 
 asked-up : (told : Option (List desk.Call)) (calls : List Call) → told_len told ≤ told_len (told_after told calls)
 asked-up None calls = omega arith
@@ -133,6 +129,15 @@ module _ {D : Type 0} (image : D → Option Text) (may_leave : D → Text → Ty
       (comes-line image may_leave moment reach said asked from mid now halt answer text (RunWork image may_leave moment reach said asked from mid left left' text) (RunWork image may_leave moment reach said asked from now left left' text)
       (λ items h. run-line left left' text items h halt)) closes came
 
+  -- the script's own end
+  pub script-end : (left left' : Option Text) (text : Text) (halt : Halt) → halt ≡ halts.Script → now ≡ mid
+      → IsBroken (Some halt) ⊎ RunComes image may_leave moment reach said asked from mid left left' text (Some halt) []
+      → RunComes image may_leave moment reach said asked from now left left' text (Some halts.Script) []
+  script-end left left' text halt is same came =
+      let Came : Halt → Type 0 = λ x. IsBroken (Some x) ⊎ RunComes image may_leave moment reach said asked from mid left left' text (Some x) [] in
+      let at : Came halts.Script = subst Came is came in
+      ⊎_elim (λ b. absurd b) (λ r. subst (λ (d : D). RunComes image may_leave moment reach said asked from d left left' text (Some halts.Script) []) (sym same) r) at
+
   pub recover-ends : (turns : ℕ) (text : Text) (halt : Halt) → EndsAtOnce image may_leave moment reach said asked mid now halt answer
       → IsBroken (Some halt) ⊎ RecoverComes image may_leave moment reach said asked from mid turns text (Some halt) []
       → IsFault answer ⊎ EndsAs (RecoverComes image may_leave moment reach said asked from now turns text) answer
@@ -221,23 +226,66 @@ module _ {D : Type 0} (image : D → Option Text) (may_leave : D → Text → Ty
       (goes-line text h (OfGenerated image may_leave moment reach said asked from mid text h number count) (OfGenerated image may_leave moment reach said asked from now text h number count) halt
       (λ P last w. absurd w))
 
+-- the same with the syncs
+module _ {D : Type 0} (image : D → Option Text) (may_leave : D → Text → Type 0) (moment : D → ℕ) (reach : D → Reach) (said : D → Option Text) (asked : D → Option (List desk.Call)) (syncs : D → Option ℕ) (from mid now : D) (unsynced : syncs now ≡ syncs mid) (answer : ℕ) where
+  -- a last line leaves the disk alone
+  untouched-line : (halt : Halt) (before : Text) → said mid ≡ told_push (said from) before → asked mid ≡ asked from
+      → (last : SaysLast image may_leave moment reach said asked mid now halt answer)
+      → Untouched image may_leave moment reach said asked syncs from mid → Untouched image may_leave moment reach said asked syncs from now
+  untouched-line halt before told asks last u = untouched-more image may_leave moment reach said asked syncs from mid now u last.says.stored unsynced last.pending last.time
+      (let S : Option Text → Type 0 = λ x. told_len (said from) ≤ told_len x in subst S (sym told) (push-up (said from) before))
+      (let S : Option Text → Type 0 = λ x. told_len (said mid) ≤ told_len x in subst S (sym last.says.told) (push-up (said mid) last.line))
+      (let S : Option (List desk.Call) → Type 0 = λ x. told_len (asked from) ≤ told_len x in subst S (sym asks) (omega arith))
+      (let S : Option (List desk.Call) → Type 0 = λ x. told_len (asked mid) ≤ told_len x in subst S (sym last.says.asks) (omega arith))
+
+  check-line : (text : Text) (halt : Halt) → (last : SaysLast image may_leave moment reach said asked mid now halt answer)
+      → CheckGoes image may_leave moment reach said asked syncs from mid text (Some halt) [] → CheckGoes image may_leave moment reach said asked syncs from now text (Some halt) last.line
+  check-line text halts.Usage last e = absurd e.0.0
+  check-line text halts.Memory last e = absurd (last.spoken refl)
+  check-line text halts.Disk last e = absurd (last.spoken refl)
+  check-line text halts.Say last e = absurd (last.spoken refl)
+  check-line text halts.Files last e = absurd (last.spoken refl)
+  check-line text halts.Script last e = absurd (last.spoken refl)
+  check-line text halts.Program last e = absurd e.0.0
+  check-line text halts.LongScript last e = absurd e.0.0
+  check-line text (halts.Store n) last e = absurd e.0.0
+  check-line text halts.LongFile last e =
+      ((e.0.0, says-then image said asked from mid now [] last.line e.0.1 last.says), untouched-line halts.LongFile [] e.0.1.told e.0.1.asks last e.1)
+  check-line text (halts.Functions f) last e =
+      ((e.0.0, says-then image said asked from mid now [] last.line e.0.1 last.says), untouched-line (halts.Functions f) [] e.0.1.told e.0.1.asks last e.1)
+
+  pub check-goes : (text : Text) (halt : Halt) → EndsAtOnce image may_leave moment reach said asked mid now halt answer
+      → CheckGoes image may_leave moment reach said asked syncs from mid text (Some halt) []
+      → GoesAs (CheckGoes image may_leave moment reach said asked syncs from now text) answer
+  check-goes text halt = goes-as image may_leave moment reach said asked from mid now answer (CheckGoes image may_leave moment reach said asked syncs from mid text) (CheckGoes image may_leave moment reach said asked syncs from now text) halt
+      (λ same old. subst (λ (d : D). CheckGoes image may_leave moment reach said asked syncs from d text (Some halt) []) (sym same) old) (check-line text halt)
+
   -- ---- a call that goes no further than a refusal
 
   store-line : (text : Text) (halt : Halt) → (last : SaysLast image may_leave moment reach said asked mid now halt answer)
-      → EndsAtStore image said asked from mid text (Some halt) [] → EndsAtStore image said asked from now text (Some halt) last.line
+      → EndsAtStore image may_leave moment reach said asked syncs from mid text (Some halt) [] → EndsAtStore image may_leave moment reach said asked syncs from now text (Some halt) last.line
   store-line text halts.Memory last e = absurd (last.spoken refl)
   store-line text halts.Disk last e = absurd (last.spoken refl)
-  store-line text halts.Usage last e = (e.0, says-then image said asked from mid now [] last.line e.1 last.says)
-  store-line text halts.Say last e = (e.0, says-then image said asked from mid now [] last.line e.1 last.says)
-  store-line text halts.Files last e = (e.0, says-then image said asked from mid now [] last.line e.1 last.says)
-  store-line text halts.Script last e = (e.0, says-then image said asked from mid now [] last.line e.1 last.says)
-  store-line text halts.Program last e = (e.0, says-then image said asked from mid now [] last.line e.1 last.says)
-  store-line text halts.LongFile last e = (e.0, says-then image said asked from mid now [] last.line e.1 last.says)
-  store-line text halts.LongScript last e = (e.0, says-then image said asked from mid now [] last.line e.1 last.says)
-  store-line text (halts.Functions f) last e = (e.0, says-then image said asked from mid now [] last.line e.1 last.says)
-  store-line text (halts.Store n) last e = (e.0, says-then image said asked from mid now [] last.line e.1 last.says)
+  store-line text halts.Usage last e =
+      ((e.0.0, says-then image said asked from mid now [] last.line e.0.1 last.says), untouched-line halts.Usage [] e.0.1.told e.0.1.asks last e.1)
+  store-line text halts.Say last e =
+      ((e.0.0, says-then image said asked from mid now [] last.line e.0.1 last.says), untouched-line halts.Say [] e.0.1.told e.0.1.asks last e.1)
+  store-line text halts.Files last e =
+      ((e.0.0, says-then image said asked from mid now [] last.line e.0.1 last.says), untouched-line halts.Files [] e.0.1.told e.0.1.asks last e.1)
+  store-line text halts.Script last e =
+      ((e.0.0, says-then image said asked from mid now [] last.line e.0.1 last.says), untouched-line halts.Script [] e.0.1.told e.0.1.asks last e.1)
+  store-line text halts.Program last e =
+      ((e.0.0, says-then image said asked from mid now [] last.line e.0.1 last.says), untouched-line halts.Program [] e.0.1.told e.0.1.asks last e.1)
+  store-line text halts.LongFile last e =
+      ((e.0.0, says-then image said asked from mid now [] last.line e.0.1 last.says), untouched-line halts.LongFile [] e.0.1.told e.0.1.asks last e.1)
+  store-line text halts.LongScript last e =
+      ((e.0.0, says-then image said asked from mid now [] last.line e.0.1 last.says), untouched-line halts.LongScript [] e.0.1.told e.0.1.asks last e.1)
+  store-line text (halts.Functions f) last e =
+      ((e.0.0, says-then image said asked from mid now [] last.line e.0.1 last.says), untouched-line (halts.Functions f) [] e.0.1.told e.0.1.asks last e.1)
+  store-line text (halts.Store n) last e =
+      ((e.0.0, says-then image said asked from mid now [] last.line e.0.1 last.says), untouched-line (halts.Store n) [] e.0.1.told e.0.1.asks last e.1)
 
   pub store-ends : (text : Text) (halt : Halt) → EndsAtOnce image may_leave moment reach said asked mid now halt answer
-      → EndsAtStore image said asked from mid text (Some halt) [] → GoesAs (EndsAtStore image said asked from now text) answer
-  store-ends text halt = goes-as (EndsAtStore image said asked from mid text) (EndsAtStore image said asked from now text) halt
-      (λ same old. subst (λ (d : D). EndsAtStore image said asked from d text (Some halt) []) (sym same) old) (store-line text halt)
+      → EndsAtStore image may_leave moment reach said asked syncs from mid text (Some halt) [] → GoesAs (EndsAtStore image may_leave moment reach said asked syncs from now text) answer
+  store-ends text halt = goes-as image may_leave moment reach said asked from mid now answer (EndsAtStore image may_leave moment reach said asked syncs from mid text) (EndsAtStore image may_leave moment reach said asked syncs from now text) halt
+      (λ same old. subst (λ (d : D). EndsAtStore image may_leave moment reach said asked syncs from d text (Some halt) []) (sym same) old) (store-line text halt)

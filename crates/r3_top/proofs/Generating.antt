@@ -23,7 +23,7 @@ use Rattle.r3_gen.specs.declared.fault.GenFault.{GenFault}
 use Rattle.r3_gen.specs.declared.fault.GenFault.TheVariants as gens
 use Rattle.r3_top.specs.Functions.{IsAccepted}
 use Rattle.r3_top.specs.Refusals.{IsOthers}
-use Rattle.r3_top.specs.Causes.{IsBegun, IsReady}
+use Rattle.r3_top.specs.Causes.{IsBegun}
 use Rattle.r3_top.specs.Going.{Unsaid, WithinUnsaid, Generating}
 use Rattle.r3_top.proofs.Saying.{push-none}
 use Rattle.r3_top.proofs.Refusing.{Opening-of, Others-of}

@@ -10,3 +10,4 @@ pub mod Closing
 pub mod Ordering
 pub mod Generating
 pub mod Unread
+pub mod Checking

@@ -1,5 +1,5 @@
 -- Calls that are refused before their work.
-use Rattle.std.proofs.Common.{◌≡◌, ◌⊎◌, inl, inr, ⊎_elim, ℕ, ◌<◌, ◌≤◌, ◌^◌, List, [], length, Option, Some, None, refl, sym, ◌∙◌, subst}
+use Rattle.std.proofs.Common.{◌≡◌, ◌⊎◌, inl, inr, ⊎_elim, ℕ, ◌<◌, ◌≤◌, ◌^◌, List, [], length, Option, Some, refl, sym, ◌∙◌, subst}
 use Rattle.std.specs.Prelude.{Result, Err, ⊤}
 use Rattle.std.specs.Option.{ForSome}
 use Rattle.fn_tree.specs.declared.program.Item.{Item}
@@ -9,7 +9,7 @@ use Rattle.r3_desk.specs.Crash.{Reach}
 use Rattle.r3_entry.specs.Image.{IsHistoryOf}
 use Rattle.r3_store.specs.declared.fault.OpenFault.{OpenFault}
 use Rattle.r3_model.specs.Language.{Language, Text}
-use Rattle.r3_recover.specs.Opened.{HasProgram, HasCause as HasStartCause, IsHalted}
+use Rattle.r3_recover.specs.Opened.{IsNoneOf, HasProgram, HasCause as HasStartCause, IsHalted}
 use Rattle.r3_recover.specs.declared.ends.StartFault.{StartFault}
 use Rattle.r3_recover.specs.declared.ends.StartFault.TheVariants as starts
 use Rattle.r3_top.specs.declared.functions.FunctionsFault.{FunctionsFault}
@@ -21,7 +21,7 @@ use Rattle.r3_top.specs.Refusals.{EndsAtFile, IsEarly, IsFile, IsRefusal, IsNoSt
 use Rattle.r3_top.specs.Causes.{HasCause, HasEarlyCause, IsBegun, IsReady}
 use Rattle.r3_top.specs.Commands.{OnStore}
 use Rattle.r3_top.specs.Answered.{Says}
-use Rattle.r3_top.specs.Closes.{EndsAtStore}
+use Rattle.r3_top.specs.Closes.{StopsAtStore}
 use Rattle.r3_top.specs.Going.{Unbegun, Goes, NoWork}
 use Rattle.r3_words.specs.Forms.{Form, run, recover, trace, replay, retro, check, gen}
 
@@ -165,10 +165,14 @@ store-is-taken image text i h start fault at opens there history has = store-hal
 pub begun-ready : (text : Text) (image : Option Text) (i : Text) → image ≡ Some i → IsBegun text image → IsReady text (Some i)
 begun-ready text image i there b = let x = b i there in (i, x.0, refl, x.1, x.2)
 
+-- a file on which it wasn't begun
+pub none-of : (text given i : Text) → given ≡ text → (IsReady text (Some i) → ⊥) → IsNoneOf given i
+none-of text given i same none = λ h history has. none (i, h, refl, history, subst (λ (x : Text). HasProgram h x) same has)
+
 -- what ends before the work, of a call whose store isn't this program's
 pub ends-at-store : {D : Type 0} (told : D → Option Text) (said : D → Option Text) (asked : D → Option (List desk.Call)) (from now : D) (text : Text) (halt : Halt)
     → IsBroken (Some halt) ⊎ (IsRefusal text (told from) (Some halt) × Says told said asked from now [])
-    → (halt ≡ halts.Say → ⊥) → said now ≡ said from → asked now ≡ asked from → EndsAtStore told said asked from now text (Some halt) []
+    → (halt ≡ halts.Say → ⊥) → said now ≡ said from → asked now ≡ asked from → StopsAtStore told said asked from now text (Some halt) []
 ends-at-store told said asked from now text halts.Memory r none a b = (a, b)
 ends-at-store told said asked from now text halts.Disk r none a b = (a, b)
 ends-at-store told said asked from now text halts.Say r none a b = absurd (none refl)
@@ -187,7 +191,7 @@ not-say halt early is = let bad : IsEarly halts.Say = subst IsEarly is early in 
 -- the same of a call that has begun no work
 pub ends-early : {D : Type 0} (told : D → Option Text) (said : D → Option Text) (asked : D → Option (List desk.Call)) (from now : D) (text : Text) (halt : Halt)
     → IsBroken (Some halt) ⊎ (IsRefusal text (told from) (Some halt) × Says told said asked from now [])
-    → IsEarly halt → (said now ≡ said from) × (asked now ≡ asked from) → EndsAtStore told said asked from now text (Some halt) []
+    → IsEarly halt → (said now ≡ said from) × (asked now ≡ asked from) → StopsAtStore told said asked from now text (Some halt) []
 ends-early told said asked from now text halt r early quiet = ends-at-store told said asked from now text halt r (not-say halt early) quiet.0 quiet.1
 
 -- ---- the causes of what ends before the work

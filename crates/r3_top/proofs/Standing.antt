@@ -1,11 +1,8 @@
 -- What stands first in the way of a command, and that the status tells it both ways.
-use Rattle.std.proofs.Common.{◌≡◌, ◌⊎◌, inl, inr, ⊎_elim, ℕ, ◌<◌, ◌≤◌, ◌^◌, List, length, Option, Some, None, refl, sym, ap, ◌∙◌, subst, arith}
+use Rattle.std.proofs.Common.{◌≡◌, ◌⊎◌, inl, inr, ⊎_elim, ℕ, ◌<◌, ◌≤◌, ◌^◌, length, Option, Some, None, refl, sym, ap, ◌∙◌, subst, arith}
 use Rattle.std.specs.Option.{ForSome}
-use Rattle.r3_entry.specs.declared.entry.Entry.{Entry}
-use Rattle.r3_entry.specs.Image.{IsHistoryOf}
 use Rattle.r3_words.specs.Forms.{Form, run, recover, trace, replay, retro, check, gen}
 use Rattle.r3_model.specs.Language.{Text}
-use Rattle.r3_recover.specs.Opened.{HasProgram}
 use Rattle.r3_top.specs.declared.functions.FunctionsFault.{FunctionsFault}
 use Rattle.r3_top.specs.Commands.{OnStore, IfStore, OnScript, IfScript}
 use Rattle.r3_top.specs.Functions.{IsRefused}

@@ -1,10 +1,10 @@
 -- How far a call has come, by what was said, asked and stored since its start.
-use Rattle.std.specs.Prelude.{◌≡◌, ◌⊎◌, ℕ, ◌-◌, ◌≤◌, List, ◌++◌, length, Option}
+use Rattle.std.specs.Prelude.{◌≡◌, ◌⊎◌, ℕ, ◌-◌, ◌≤◌, List, ◌++◌, length, Option, Some}
 use Rattle.std.specs.Option.{ForSome}
 use Rattle.r3_entry.specs.declared.entry.Entry.{Entry}
 use Rattle.r3_entry.specs.Image.{IsHistoryOf}
 use Rattle.r3_desk.specs.Asked as desk
-use Rattle.r3_desk.specs.Crash.{Reach, LeavesOnly}
+use Rattle.r3_desk.specs.Crash.{Reach, LeavesOnly, NothingPending}
 use Rattle.r3_desk.specs.Disk.{told_len, told_push}
 use Rattle.r3_model.specs.Language.{Language, Text}
 use Rattle.r3_model.specs.Event.{Reply, Call}
@@ -31,6 +31,14 @@ pub record Says {D : Type 0} (told_image : D → Option Text) (said : D → Opti
   pub told : said now ≡ told_push (said from) bytes
   pub asks : asked now ≡ asked from
   pub stored : told_image now ≡ told_image from
+
+-- The disk was read at most: a crash, now and at any moment since, leaves the image that was there.
+pub record Untouched {D : Type 0} (told_image : D → Option Text) (may_leave : D → Text → Type 0) (moment : D → ℕ) (reach : D → Reach) (said : D → Option Text) (asked : D → Option (List desk.Call)) (syncs : D → Option ℕ) (from now : D) : Type 0 where
+  pub stored : told_image now ≡ told_image from
+  pub unsynced : syncs now ≡ syncs from
+  pub settled : NothingPending (told_image from) (may_leave now)
+  pub leaves : LeavesOnly moment reach from now (λ image n m. AreBetween (said from) (said now) (asked from) (asked now) n m
+      × (told_image from ≡ Some image))
 
 -- The machine's call on this history with these lines was done: its replies were said, with this line behind them,
 -- its calls were asked, and its history is stored. A crash now leaves all of it.

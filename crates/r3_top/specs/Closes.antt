@@ -5,7 +5,7 @@ use Rattle.r3_desk.specs.Crash.{Reach, GoesOn}
 use Rattle.r3_model.specs.Language.{Text}
 use Rattle.r3_top.specs.Statuses.{HasLine, status_of, last_line}
 use Rattle.r3_top.specs.Refusals.{IsRefusal}
-use Rattle.r3_top.specs.Answered.{Says}
+use Rattle.r3_top.specs.Answered.{Says, Untouched}
 use Rattle.r3_top.specs.declared.halt.Halt.{Halt}
 use Rattle.r3_top.specs.declared.halt.Halt.TheVariants as halts
 
@@ -36,10 +36,16 @@ pub record CallsNeither {D : Type 0} (told_size syncs : D → Option ℕ) (disk_
   pub no_disk_fault : disk_faults now ≡ disk_faults from
   pub no_ask_fault : ask_faults now ≡ ask_faults from
 
--- A call that goes no further than the store: it was refused, with nothing written, nothing asked and this line said;
--- or it was stopped, with nothing said and nothing asked.
-abbrev pub EndsAtStore : {D : Type 0} → (D → Option Text) → (D → Option Text) → (D → Option (List desk.Call)) → D → D → Text → Option Halt → Text → Type 0
-EndsAtStore told_image said asked from now text (Some halts.Memory) line = (said now ≡ said from) × (asked now ≡ asked from)
-EndsAtStore told_image said asked from now text (Some halts.Disk) line = (said now ≡ said from) × (asked now ≡ asked from)
-EndsAtStore told_image said asked from now text end line =
+-- A call that goes no further than the store: it was refused, with nothing asked and this line said; or it was stopped,
+-- with nothing said and nothing asked.
+abbrev pub StopsAtStore : {D : Type 0} → (D → Option Text) → (D → Option Text) → (D → Option (List desk.Call)) → D → D → Text → Option Halt → Text → Type 0
+StopsAtStore told_image said asked from now text (Some halts.Memory) line = (said now ≡ said from) × (asked now ≡ asked from)
+StopsAtStore told_image said asked from now text (Some halts.Disk) line = (said now ≡ said from) × (asked now ≡ asked from)
+StopsAtStore told_image said asked from now text end line =
     IsRefusal text (told_image from) end × Says told_image said asked from now line
+
+-- However it has ended, the disk was read at most.
+abbrev pub EndsAtStore : {D : Type 0} → (D → Option Text) → (D → Text → Type 0) → (D → ℕ) → (D → Reach) → (D → Option Text) → (D → Option (List desk.Call)) → (D → Option ℕ) → D → D → Text → Option Halt → Text → Type 0
+EndsAtStore told_image may_leave moment reach said asked syncs from now text end line =
+    StopsAtStore told_image said asked from now text end line
+    × Untouched told_image may_leave moment reach said asked syncs from now

@@ -6,6 +6,7 @@ use Rattle.r3_entry.specs.declared.entry.Entry.{Entry}
 use Rattle.r3_entry.specs.Image.{IsHistoryOf}
 use Rattle.r3_desk.specs.Asked as desk
 use Rattle.r3_desk.specs.Crash.{Reach}
+use Rattle.r3_json.specs.Lines as json
 use Rattle.r3_model.specs.Event.{Reply, Call}
 use Rattle.r3_model.specs.Functions.{language_of}
 use Rattle.r3_model.specs.Generator.{generated}
@@ -21,9 +22,10 @@ use Rattle.r3_serve.specs.Scripted.{script_lines, ended_script_lines}
 use Rattle.r3_serve.specs.Failed.{ReplyFailed, ReplyFailedIn}
 use Rattle.r3_gen.specs.Ran.{Ran, HasSaid, SummaryFailed}
 use Rattle.r3_top.specs.Functions.{IsAccepted}
-use Rattle.r3_top.specs.Refusals.{IsFileRefusal}
+use Rattle.r3_top.specs.Counts.{counts_data}
+use Rattle.r3_top.specs.Refusals.{IsFile, IsFileRefusal}
 use Rattle.r3_top.specs.Statuses.{HasLine, last_line}
-use Rattle.r3_top.specs.Answered.{Says, Answered, LeavesPrefix}
+use Rattle.r3_top.specs.Answered.{Says, Answered, LeavesPrefix, Untouched}
 use Rattle.r3_top.specs.declared.halt.Halt.{Halt}
 use Rattle.r3_top.specs.declared.halt.Halt.TheVariants as halts
 
@@ -148,6 +150,22 @@ module _ {D : Type 0} (told_image : D → Option Text) (may_leave : D → Text �
 
   abbrev pub GenGoes : Text → List Entry → ℕ → ℕ → Option Halt → Text → Type 0
   GenGoes text h number count end line = Goes text h (OfGenerated text h number count) end line
+
+module _ {D : Type 0} (told_image : D → Option Text) (may_leave : D → Text → Type 0) (moment : D → ℕ) (reach : D → Reach) (said : D → Option Text) (asked : D → Option (List desk.Call)) (syncs : D → Option ℕ) (from now : D) where
+  -- Of the counts of a function file: all of their line, or a first part where the output failed; else nothing, for want
+  -- of memory or since the file was refused. Behind it this was said.
+  abbrev pub OfCounts : Text → Option Halt → Text → Type 0
+  OfCounts text None line =
+      (items : List Item) × IsFile text items × Says told_image said asked from now (json.line_of (counts_data items) ++ line)
+  OfCounts text (Some halts.Say) line =
+      (items : List Item) × IsFile text items × (part : Text) × (rest : Text) × (part ++ rest ≡ json.line_of (counts_data items))
+      × Says told_image said asked from now (part ++ line)
+  OfCounts text (Some halts.Memory) line = Says told_image said asked from now line
+  OfCounts text end line = IsFileRefusal text end × Says told_image said asked from now line
+
+  -- However it has ended, nothing was stored.
+  abbrev pub CheckGoes : Text → Option Halt → Text → Type 0
+  CheckGoes text end line = OfCounts text end line × Untouched told_image may_leave moment reach said asked syncs from now
 
 -- The output has failed: at the reply of a line, with each one before said whole and in order, and nothing else; or at
 -- the last line, of which this first part was said.

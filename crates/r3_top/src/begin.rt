@@ -12,8 +12,8 @@ ghost use Rattle.r3_serve.specs.Served.{Loud, Served};
 ghost use Rattle.r3_top.specs.Statuses.{IsBroken};
 ghost use Rattle.r3_top.specs.Functions.{IsRefused};
 ghost use Rattle.r3_top.specs.Refusals.{EndsAtFile, IsEarly, IsFunctionFile, IsOpened, IsRefusal};
-ghost use Rattle.r3_top.specs.Causes.{HasEarlyCause};
-ghost use Rattle.r3_top.specs.Answered.{Says};
+ghost use Rattle.r3_top.specs.Causes.{HasEarlyCause, IsReady};
+ghost use Rattle.r3_top.specs.Answered.{Says, Untouched};
 ghost use Rattle.r3_top.specs.Going.{Goes, NoWork};
 ghost use Rattle.r3_top.specs.Ends.{end_of};
 ghost use Rattle.r3_top.specs.declared.functions.FunctionsFault.{FunctionsFault};
@@ -52,6 +52,11 @@ pub fn begin<D: Desk, F: Shelf>(
     ensures file_first { (text : Text) → F.text_of shelf.old path.now ≡ Some text → (IsFunctionFile text → ⊥) →
         (desk.new ≡ desk.old) × EndsAtFile text (end_of result) }
     ensures unsaid { OnErr result ((D.said desk.new ≡ D.said desk.old) × (D.asked desk.new ≡ D.asked desk.old)) }
+
+    // Where the file is no store, or one of another program, it is left alone, whatever is answered.
+    ensures alone { (text image : Text) → F.text_of shelf.old path.now ≡ Some text → D.image desk.old ≡ Some image →
+        (IsReady text (Some image) → ⊥) →
+        OnErr result (Untouched D.image D.may_leave D.moment D.reach D.said D.asked D.syncs desk.old desk.new) }
 
     // Where the store is this program's, nothing was done, or the opening may not be settled.
     ensures goes { (text image : Text) (h : List Entry) → F.text_of shelf.old path.now ≡ Some text →

@@ -2,11 +2,13 @@
 
 ghost use Rattle.std.specs.Prelude.{◌≡◌, ◌⊎◌, [], Err, Option, Some};
 ghost use Rattle.r3_desk.specs.Causes.{Rose};
+ghost use Rattle.r3_desk.specs.Crash.{NothingPending};
 ghost use Rattle.r3_model.specs.Language.{Text};
 ghost use Rattle.r3_words.specs.Forms.{check as check_form};
 ghost use Rattle.r3_top.specs.Causes.{HasCause};
 ghost use Rattle.r3_top.specs.Statuses.{IsBroken};
 ghost use Rattle.r3_top.specs.Refusals.{EndsAtFile, IsFunctionFile};
+ghost use Rattle.r3_top.specs.Going.{CheckGoes};
 ghost use Rattle.r3_top.specs.Ends.{CheckComes, end_of};
 
 use crate::counts::counts_line;
@@ -22,8 +24,11 @@ pub fn check<D: Desk, F: Shelf>(
     desk: &mut D,
     shelf: &mut F,
 ) -> Result<(), Halt>
+    requires { NothingPending (D.image desk.old) (D.may_leave desk.old) }
     ensures comes { (text : Text) → F.text_of shelf.old path.now ≡ Some text →
         IsBroken (end_of result) ⊎ CheckComes D.image D.said D.asked desk.old desk.new text (end_of result) [] }
+    ensures goes { (text : Text) → F.text_of shelf.old path.now ≡ Some text →
+        CheckGoes D.image D.may_leave D.moment D.reach D.said D.asked D.syncs desk.old desk.new text (end_of result) [] }
     ensures causes { (text : Text) (image left : Option Text) → F.text_of shelf.old path.now ≡ Some text →
         HasCause (check_form path.now) text image left (end_of result) }
 

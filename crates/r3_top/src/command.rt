@@ -13,7 +13,7 @@ ghost use Rattle.r3_top.specs.Statuses.{IsBroken};
 ghost use Rattle.r3_top.specs.Refusals.{EndsAtFile, IsFunctionFile, ReadsNone};
 ghost use Rattle.r3_top.specs.Causes.{HasCause, IsReady};
 ghost use Rattle.r3_top.specs.Closes.{EndsAtStore};
-ghost use Rattle.r3_top.specs.Going.{GenGoes, RecoverGoes, RunGoes};
+ghost use Rattle.r3_top.specs.Going.{CheckGoes, GenGoes, RecoverGoes, RunGoes};
 ghost use Rattle.r3_top.specs.Ends.{CheckComes, GenComes, RecoverComes, RunComes, end_of};
 
 use crate::check::check;
@@ -60,11 +60,18 @@ pub fn command<D: Desk, S: Source, F: Shelf>(
         asked_by (map string_bytes words.now) ≡ Some (gen_form number count) →
         D.image desk.old ≡ Some image → IsHistoryOf h image → HasProgram h BANK.now →
         GenGoes D.image D.may_leave D.moment D.reach D.said D.asked desk.old desk.new BANK.now h number count (end_of result) [] }
+    ensures recover_reads_none { (functions : Text) (turns : ℕ) →
+        asked_by (map string_bytes words.now) ≡ Some (recover_form functions turns) → script.new ≡ script.old }
     ensures gen_reads_none { (number count : ℕ) → asked_by (map string_bytes words.now) ≡ Some (gen_form number count) →
         (script.new ≡ script.old) × (shelf.new ≡ shelf.old) × IfErr result ReadsNone }
     ensures checks { (functions text : Text) → asked_by (map string_bytes words.now) ≡ Some (check_form functions) →
         F.text_of shelf.old functions ≡ Some text →
         IsBroken (end_of result) ⊎ CheckComes D.image D.said D.asked desk.old desk.new text (end_of result) [] }
+    ensures check_goes { (functions text : Text) → asked_by (map string_bytes words.now) ≡ Some (check_form functions) →
+        F.text_of shelf.old functions ≡ Some text →
+        CheckGoes D.image D.may_leave D.moment D.reach D.said D.asked D.syncs desk.old desk.new text (end_of result) [] }
+    ensures check_reads_none { (functions : Text) → asked_by (map string_bytes words.now) ≡ Some (check_form functions) →
+        script.new ≡ script.old }
     ensures opens_no_store { (functions : Text) → asked_by (map string_bytes words.now) ≡ Some (check_form functions) →
         (D.image desk.new ≡ D.image desk.old) × (D.disk_faults desk.new ≡ D.disk_faults desk.old) }
     ensures causes { (form : Form) (text : Text) → asked_by (map string_bytes words.now) ≡ Some form →
@@ -81,7 +88,7 @@ pub fn command<D: Desk, S: Source, F: Shelf>(
     ensures store_first { (form : Form) (text image : Text) → asked_by (map string_bytes words.now) ≡ Some form →
         functions_text (F.text_of shelf.old) BANK.now form ≡ Some text → OnStore form ⊤ → D.image desk.old ≡ Some image →
         (IsReady text (Some image) → ⊥) → (script.new ≡ script.old)
-        × EndsAtStore D.image D.said D.asked desk.old desk.new text (end_of result) [] }
+        × EndsAtStore D.image D.may_leave D.moment D.reach D.said D.asked D.syncs desk.old desk.new text (end_of result) [] }
 
     // Each fault has its cause.
     ensures usage { result ≡ Err Halt.Usage → asked_by (map string_bytes words.now) ≡ None }

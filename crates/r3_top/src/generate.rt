@@ -44,7 +44,7 @@ pub fn generate<D: Desk>(
     // The functions come first, and then the store.
     ensures file_first { (IsFunctionFile text.now → ⊥) → (desk.new ≡ desk.old) × EndsAtFile text.now (end_of result) }
     ensures store_first { (image : Text) → D.image desk.old ≡ Some image → (IsReady text.now (Some image) → ⊥) →
-        EndsAtStore D.image D.said D.asked desk.old desk.new text.now (end_of result) [] }
+        EndsAtStore D.image D.may_leave D.moment D.reach D.said D.asked D.syncs desk.old desk.new text.now (end_of result) [] }
     ensures reads_none { IfErr result ReadsNone }
     ensures usage { result ≡ Err Halt.Usage → ⊥ }
     ensures files { result ≡ Err Halt.Files → ⊥ }

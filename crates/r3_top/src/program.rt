@@ -1,6 +1,6 @@
 //! The whole program, over any environment.
 
-ghost use Rattle.std.specs.Prelude.{◌≡◌, ◌⊎◌, ◌<◌, ◌^◌, ℕ, true, List, length, Some, None, map, string_bytes, ⊤};
+ghost use Rattle.std.specs.Prelude.{◌≡◌, ◌⊎◌, ◌<◌, ◌^◌, ℕ, true, [], List, length, Some, None, map, string_bytes, ⊤};
 ghost use Rattle.std.specs.Option.{ForSome};
 ghost use Rattle.r3_desk.specs.Causes.{Rose};
 ghost use Rattle.r3_desk.specs.Crash.{NothingPending};
@@ -15,7 +15,7 @@ ghost use Rattle.r3_top.specs.Statuses.{GoesAs, HasLine, IsFault, IsStatus, stat
 ghost use Rattle.r3_top.specs.Refusals.{EndsAtFile, IsFunctionFile, IsNoStore, IsOthers};
 ghost use Rattle.r3_top.specs.Causes.{HasScript, HasStore, IsReady, IsStatusOf, IsTaken};
 ghost use Rattle.r3_top.specs.Closes.{CallsNeither, EndsAtOnce, EndsAtStore};
-ghost use Rattle.r3_top.specs.Going.{FailsToSay, GenGoes, RecoverGoes, RunGoes};
+ghost use Rattle.r3_top.specs.Going.{CheckGoes, FailsToSay, GenGoes, RecoverGoes, RunGoes};
 ghost use Rattle.r3_top.specs.Ends.{CheckComes, EndsAs, GenComes, RecoverComes, RunComes};
 ghost use Rattle.r3_top.specs.declared.functions.FunctionsFault.{FunctionsFault};
 ghost use Rattle.r3_top.specs.declared.halt.Halt.{Halt as Halted};
@@ -88,11 +88,15 @@ pub fn top<D: Desk, S: Source, F: Shelf>(
         IsFault result ⊎ EndsAs (RecoverComes D.image D.may_leave D.moment D.reach D.said D.asked desk.old desk.new turns text) result }
     ensures generates { (number count : ℕ) → asked_by (map string_bytes words.now) ≡ Some (gen_form number count) →
         IsFault result ⊎ EndsAs (GenComes D.image D.may_leave D.moment D.reach D.said D.asked desk.old desk.new number count BANK.now) result }
+    ensures recover_reads_none { (functions : Text) (turns : ℕ) →
+        asked_by (map string_bytes words.now) ≡ Some (recover_form functions turns) → script.new ≡ script.old }
     ensures gen_reads_none { (number count : ℕ) → asked_by (map string_bytes words.now) ≡ Some (gen_form number count) →
         (script.new ≡ script.old) × (shelf.new ≡ shelf.old) × (result ≡ 6 → ⊥) × (result ≡ 10 → ⊥) }
     ensures checks { (functions text : Text) → asked_by (map string_bytes words.now) ≡ Some (check_form functions) →
         F.text_of shelf.old functions ≡ Some text →
         IsFault result ⊎ EndsAs (CheckComes D.image D.said D.asked desk.old desk.new text) result }
+    ensures check_reads_none { (functions : Text) → asked_by (map string_bytes words.now) ≡ Some (check_form functions) →
+        script.new ≡ script.old }
     ensures opens_no_store { (functions : Text) → asked_by (map string_bytes words.now) ≡ Some (check_form functions) →
         (D.image desk.new ≡ D.image desk.old) × (D.disk_faults desk.new ≡ D.disk_faults desk.old) }
 
@@ -129,6 +133,28 @@ pub fn top<D: Desk, S: Source, F: Shelf>(
         D.image desk.old ≡ Some image → IsHistoryOf h image → HasProgram h BANK.now → result ≡ 5 →
         FailsToSay (GenGoes D.image D.may_leave D.moment D.reach D.said D.asked desk.old desk.new BANK.now h number count) }
 
+    // However a check ends, it has said the counts or a first part of them, or nothing but its last line, and the disk is
+    // as it was.
+    ensures check_goes { (functions text : Text) → asked_by (map string_bytes words.now) ≡ Some (check_form functions) →
+        F.text_of shelf.old functions ≡ Some text →
+        GoesAs (CheckGoes D.image D.may_leave D.moment D.reach D.said D.asked D.syncs desk.old desk.new text) result }
+    ensures check_say_whole { (functions text : Text) → asked_by (map string_bytes words.now) ≡ Some (check_form functions) →
+        F.text_of shelf.old functions ≡ Some text → result ≡ 5 →
+        FailsToSay (CheckGoes D.image D.may_leave D.moment D.reach D.said D.asked D.syncs desk.old desk.new text) }
+
+    // Where the script has failed, each line that ends before was answered; where the function file can't be read,
+    // nothing was done.
+    ensures script_fails { (functions text : Text) → asked_by (map string_bytes words.now) ≡ Some (run_form functions) →
+        F.text_of shelf.old functions ≡ Some text → (S.faults script.new ≡ S.faults script.old → ⊥) →
+        (result ≡ 6) × RunComes D.image D.may_leave D.moment D.reach D.said D.asked desk.old desk.new
+        (S.left script.old) (S.left script.new) text (Some halts.Script) [] }
+    ensures run_input { (functions text : Text) → asked_by (map string_bytes words.now) ≡ Some (run_form functions) →
+        F.text_of shelf.old functions ≡ Some text → result ≡ 6 →
+        (Rose (F.faults shelf.old) (F.faults shelf.new) × (desk.new ≡ desk.old) × (script.new ≡ script.old))
+        ⊎ (Rose (S.faults script.old) (S.faults script.new)
+        × RunComes D.image D.may_leave D.moment D.reach D.said D.asked desk.old desk.new
+        (S.left script.old) (S.left script.new) text (Some halts.Script) []) }
+
     // The words come first, then the function file, then the store, and then the script: what is refused at one of
     // them leaves all that comes behind it alone.
     ensures words_first { asked_by (map string_bytes words.now) ≡ None →
@@ -145,7 +171,7 @@ pub fn top<D: Desk, S: Source, F: Shelf>(
     ensures refused_first { (form : Form) (text image : Text) → asked_by (map string_bytes words.now) ≡ Some form →
         functions_text (F.text_of shelf.old) BANK.now form ≡ Some text → OnStore form ⊤ → D.image desk.old ≡ Some image →
         (IsReady text (Some image) → ⊥) → (script.new ≡ script.old)
-        × GoesAs (EndsAtStore D.image D.said D.asked desk.old desk.new text) result }
+        × GoesAs (EndsAtStore D.image D.may_leave D.moment D.reach D.said D.asked D.syncs desk.old desk.new text) result }
 
     // Each status has its cause, and each cause its status: what stands first in the way is told, and 0 where nothing
     // does, unless something fails or there is no memory.

@@ -51,7 +51,7 @@ pub fn run<D: Desk, S: Source, F: Shelf>(
         (desk.new ≡ desk.old) × (source.new ≡ source.old) × EndsAtFile text (end_of result) }
     ensures store_first { (text image : Text) → F.text_of shelf.old path.now ≡ Some text → D.image desk.old ≡ Some image →
         (IsReady text (Some image) → ⊥) → (source.new ≡ source.old)
-        × EndsAtStore D.image D.said D.asked desk.old desk.new text (end_of result) [] }
+        × EndsAtStore D.image D.may_leave D.moment D.reach D.said D.asked D.syncs desk.old desk.new text (end_of result) [] }
     ensures ended { OnOk result (S.ended source.new ≡ true) }
     ensures usage { result ≡ Err Halt.Usage → ⊥ }
     ensures disk { result ≡ Err Halt.Disk → Rose (D.disk_faults desk.old) (D.disk_faults desk.new) }
@@ -105,7 +105,7 @@ pub fn recover<D: Desk, F: Shelf>(
     ensures file_first { (text : Text) → F.text_of shelf.old path.now ≡ Some text → (IsFunctionFile text → ⊥) →
         (desk.new ≡ desk.old) × EndsAtFile text (end_of result) }
     ensures store_first { (text image : Text) → F.text_of shelf.old path.now ≡ Some text → D.image desk.old ≡ Some image →
-        (IsReady text (Some image) → ⊥) → EndsAtStore D.image D.said D.asked desk.old desk.new text (end_of result) [] }
+        (IsReady text (Some image) → ⊥) → EndsAtStore D.image D.may_leave D.moment D.reach D.said D.asked D.syncs desk.old desk.new text (end_of result) [] }
     ensures usage { result ≡ Err Halt.Usage → ⊥ }
     ensures script { result ≡ Err Halt.Script → ⊥ }
     ensures disk { result ≡ Err Halt.Disk → Rose (D.disk_faults desk.old) (D.disk_faults desk.new) }

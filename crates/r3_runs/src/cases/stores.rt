@@ -103,13 +103,15 @@ fn a_file_that_is_no_store_is_refused(rt: HostRuntime) -> Result<(), Fail> {
 
 #[test]
 fn a_call_that_fails_has_its_status(rt: HostRuntime) -> Result<(), Fail> {
-    // the failing call of the desk, the script and the files; the status, and the bytes stored where they are settled
+    // the failing call of the desk, the script and the files; the status, the replies, and the bytes stored where they
+    // are settled. The first read of the script gives its line, and the second its end.
     let cases = [
-        (1, 0, 0, 4, b"".as_slice()),
-        (0, 1, 0, 6, ONE_PROGRAM),
-        (0, 0, 1, 6, b""),
+        (1, 0, 0, 4, b"".as_slice(), b"".as_slice()),
+        (0, 1, 0, 6, b"", ONE_PROGRAM),
+        (0, 2, 0, 6, b"{\"entry\":2}\n", ONE_LOAD),
+        (0, 0, 1, 6, b"", b""),
     ];
-    for (desk, script, files, status, stored) in cases {
+    for (desk, script, files, status, said, stored) in cases {
         let fails = Fails {
             desk,
             script,
@@ -117,7 +119,7 @@ fn a_call_that_fails_has_its_status(rt: HostRuntime) -> Result<(), Fail> {
         };
         let left = left_by(rt.alloc(), RUN, b"", TINY.as_bytes(), LOAD, &fails)?;
         assert_eq!(rt; left.status, status);
-        assert_eq!(rt; left.said.len(), 0);
+        assert_eq!(rt; left.said.as_slice(), said);
         assert_eq!(rt; left.desk.image(), stored);
     }
     Ok(())

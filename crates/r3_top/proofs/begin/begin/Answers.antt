@@ -1,15 +1,17 @@
-use Rattle.std.proofs.Common.{rules, ◌≡◌, ⊎_elim, inr, ◌≤◌, ◌^◌, List, length, string_bytes, refl, sym, ◌∙◌, subst}
+use Rattle.std.proofs.Common.{rules, ◌≡◌, inl, inr, ◌≤◌, ◌^◌, List, length, string_bytes, refl, sym, ◌∙◌, subst}
 use Rattle.fn_tree.specs.declared.program.Item.{Item}
 use Rattle.r3_model.specs.Language.{Text}
+use Rattle.r3_model.specs.Functions.{language_of}
+use Rattle.r3_session.specs.Begun.{StopsOpening}
 use Rattle.r3_recover.specs.Opened.{HasProgram}
 use Rattle.r3_serve.specs.Served.{Loud}
 use Rattle.r3_top.specs.declared.halt.Halt.TheVariants as halts
 use Rattle.r3_top.specs.Functions.{IsAccepted, IsRefused}
-use Rattle.r3_top.specs.Refusals.{IsFile, IsNoStore, IsOthers}
+use Rattle.r3_top.specs.Refusals.{IsFile, IsOthers}
 use Rattle.r3_top.proofs.Saying.{says-same}
-use Rattle.r3_top.proofs.Refusing.{at-fetch, at-accept, cause-fetch, cause-accept, is-file, no-fault-in, nothing-done, no-store, store-is-taken}
+use Rattle.r3_top.proofs.Refusing.{at-fetch, at-accept, cause-fetch, cause-accept, is-file, no-fault-in, none-of, nothing-done, no-store, store-is-taken}
 use Rattle.r3_top.proofs.Generating.{gen-not-this}
-use Rattle.r3_top.proofs.Leaving.{unbegun-first}
+use Rattle.r3_top.proofs.Leaving.{unbegun-first, untouched-first, untouched-read, opening}
 use Rattle.r3_top.proofs.begin.begin.Goals as goal
 
 -- ---- the file isn't fetched
@@ -182,3 +184,67 @@ returns-in-Err-Disk-clause-file_first g c = λ text there none.
       is-file text c.in-Ok.text.items c.deref.result.now c.in-Ok-accept.program
           (c.in-Ok.ensures.text text there) c.in-Ok.ensures.short c.deref.ensures.value c.in-Ok-accept.ensures.accepted,
     ))
+
+-- ---- the file is left alone
+
+pub returns-in-Err-clause-alone : goal.returns-in-Err-clause-alone
+returns-in-Err-clause-alone g c = λ text image there is none.
+    untouched-first g.D.Desk.image g.D.Desk.may_leave g.D.Desk.moment g.D.Desk.reach g.D.Desk.said g.D.Desk.asked g.D.Desk.syncs c.args.desk.now (g.met.D.Desk.counts_now c.args.desk.now) (g.met.D.Desk.only_now c.args.desk.now) c.requires
+
+pub returns-in-Err-accept-clause-alone : goal.returns-in-Err-accept-clause-alone
+returns-in-Err-accept-clause-alone g c = λ text image there is none.
+    untouched-first g.D.Desk.image g.D.Desk.may_leave g.D.Desk.moment g.D.Desk.reach g.D.Desk.said g.D.Desk.asked g.D.Desk.syncs c.args.desk.now (g.met.D.Desk.counts_now c.args.desk.now) (g.met.D.Desk.only_now c.args.desk.now) c.requires
+
+pub returns-in_default-clause-alone : goal.returns-in_default-clause-alone
+returns-in_default-clause-alone g c = λ text image there is none.
+    untouched-first g.D.Desk.image g.D.Desk.may_leave g.D.Desk.moment g.D.Desk.reach g.D.Desk.said g.D.Desk.asked g.D.Desk.syncs c.args.desk.now (g.met.D.Desk.counts_now c.args.desk.now) (g.met.D.Desk.only_now c.args.desk.now) c.requires
+
+pub returns-in-Err-Store-clause-alone : goal.returns-in-Err-Store-clause-alone
+returns-in-Err-Store-clause-alone g c = λ text image there is none.
+    let string : string_bytes c.in-Ok-from_utf8.text ≡ c.in-Ok.text.items = search rules in
+    let bytes : c.as_str.result.now ≡ text = c.as_str.ensures.value ∙ string ∙ c.in-Ok.ensures.text text there in
+    untouched-read g.D.Desk.image g.D.Desk.may_leave g.D.Desk.moment g.D.Desk.reach g.D.Desk.said g.D.Desk.asked g.D.Desk.syncs c.args.desk.now c.open.new.desk
+    (c.open.ensures.alone image is (none-of text c.as_str.result.now image bytes none)) c.open.ensures.said c.open.ensures.asked
+
+pub returns-in-Err-Other-clause-alone : goal.returns-in-Err-Other-clause-alone
+returns-in-Err-Other-clause-alone g c = λ text image there is none.
+    let string : string_bytes c.in-Ok-from_utf8.text ≡ c.in-Ok.text.items = search rules in
+    let bytes : c.as_str.result.now ≡ text = c.as_str.ensures.value ∙ string ∙ c.in-Ok.ensures.text text there in
+    untouched-read g.D.Desk.image g.D.Desk.may_leave g.D.Desk.moment g.D.Desk.reach g.D.Desk.said g.D.Desk.asked g.D.Desk.syncs c.args.desk.now c.open.new.desk
+    (c.open.ensures.alone image is (none-of text c.as_str.result.now image bytes none)) c.open.ensures.said c.open.ensures.asked
+
+pub returns-in-Err-Disk-clause-alone : goal.returns-in-Err-Disk-clause-alone
+returns-in-Err-Disk-clause-alone g c = λ text image there is none.
+    let string : string_bytes c.in-Ok-from_utf8.text ≡ c.in-Ok.text.items = search rules in
+    let bytes : c.as_str.result.now ≡ text = c.as_str.ensures.value ∙ string ∙ c.in-Ok.ensures.text text there in
+    untouched-read g.D.Desk.image g.D.Desk.may_leave g.D.Desk.moment g.D.Desk.reach g.D.Desk.said g.D.Desk.asked g.D.Desk.syncs c.args.desk.now c.open.new.desk
+    (c.open.ensures.alone image is (none-of text c.as_str.result.now image bytes none)) c.open.ensures.said c.open.ensures.asked
+
+pub returns-clause-alone : goal.returns-clause-alone
+returns-clause-alone g c = λ text image there is none.
+    let string : string_bytes c.in-Ok-from_utf8.text ≡ c.in-Ok.text.items = search rules in
+    let bytes : c.as_str.result.now ≡ text = c.as_str.ensures.value ∙ string ∙ c.in-Ok.ensures.text text there in
+    untouched-read g.D.Desk.image g.D.Desk.may_leave g.D.Desk.moment g.D.Desk.reach g.D.Desk.said g.D.Desk.asked g.D.Desk.syncs c.args.desk.now c.open.new.desk
+    (c.open.ensures.alone image is (none-of text c.as_str.result.now image bytes none)) c.open.ensures.said c.open.ensures.asked
+
+-- ---- the opening ended early
+
+pub returns-in-Err-Disk-clause-goes : goal.returns-in-Err-Disk-clause-goes
+returns-in-Err-Disk-clause-goes g c = λ text image h there is history has.
+    let string : string_bytes c.in-Ok-from_utf8.text ≡ c.in-Ok.text.items = search rules in
+    let bytes : c.as_str.result.now ≡ text = c.as_str.ensures.value ∙ string ∙ c.in-Ok.ensures.text text there in
+    inl (opening g.D.Desk.image g.D.Desk.may_leave g.D.Desk.moment g.D.Desk.reach g.D.Desk.said g.D.Desk.asked c.args.desk.now c.open.new.desk text h c.in-Ok-accept.program
+    (subst (λ (x : Text). IsAccepted x c.in-Ok-accept.program) (c.deref.ensures.value ∙ c.in-Ok.ensures.text text there) c.in-Ok-accept.ensures.accepted)
+    (subst (λ (x : Text). StopsOpening g.D.Desk.image g.D.Desk.moment g.D.Desk.reach g.D.Desk.said g.D.Desk.asked (language_of c.in-Ok-accept.program) c.args.desk.now c.open.new.desk x h) bytes
+    (c.in-Err-Disk.ensures.stops h image is history))
+    c.open.ensures.said c.open.ensures.asked)
+
+pub returns-clause-goes : goal.returns-clause-goes
+returns-clause-goes g c = λ text image h there is history has.
+    let string : string_bytes c.in-Ok-from_utf8.text ≡ c.in-Ok.text.items = search rules in
+    let bytes : c.as_str.result.now ≡ text = c.as_str.ensures.value ∙ string ∙ c.in-Ok.ensures.text text there in
+    inr (inl (opening g.D.Desk.image g.D.Desk.may_leave g.D.Desk.moment g.D.Desk.reach g.D.Desk.said g.D.Desk.asked c.args.desk.now c.open.new.desk text h c.in-Ok-accept.program
+    (subst (λ (x : Text). IsAccepted x c.in-Ok-accept.program) (c.deref.ensures.value ∙ c.in-Ok.ensures.text text there) c.in-Ok-accept.ensures.accepted)
+    (subst (λ (x : Text). StopsOpening g.D.Desk.image g.D.Desk.moment g.D.Desk.reach g.D.Desk.said g.D.Desk.asked (language_of c.in-Ok-accept.program) c.args.desk.now c.open.new.desk x h) bytes
+    (c.in-Err-Memory.ensures.stops h image is history))
+    c.open.ensures.said c.open.ensures.asked))

@@ -1,4 +1,3 @@
-use Rattle.std.proofs.Common.{rules}
 use Rattle.r3_top.proofs.Refusals.{no_program, no-lexed, no-parsed, one-program}
 use Rattle.r3_top.proofs.functions.program_of.Goals as goal
 

@@ -7,8 +7,8 @@ use Rattle.r3_top.specs.Functions.{IsAccepted, IsRefused}
 use Rattle.r3_top.specs.Refusals.{EndsAtFile, IsNoStore, IsOthers}
 use Rattle.r3_top.specs.Going.{OfGenerated}
 use Rattle.r3_top.proofs.Saying.{says-none, says-same}
-use Rattle.r3_top.proofs.Leaving.{unbegun-first, opening}
-use Rattle.r3_top.proofs.Refusing.{Opening-of, accept-early, at-accept, begun-ready, cause-accept, cause-of, ends-early, goes-more, no-fault-in, nothing-done, no-store, refused-at-file, store-is-taken}
+use Rattle.r3_top.proofs.Leaving.{unbegun-first, untouched-first, untouched-read, opening}
+use Rattle.r3_top.proofs.Refusing.{Opening-of, accept-early, at-accept, begun-ready, cause-accept, cause-of, ends-early, goes-more, no-fault-in, nothing-done, none-of, no-store, refused-at-file, store-is-taken}
 use Rattle.r3_top.proofs.Working.{same-history}
 use Rattle.r3_top.proofs.Generating.{IsLater, at-start, no-fault, gen-others, gen-not-this, gen-is-taken, gen-begun, gen-ended, gen-failed, gen-stopped}
 use Rattle.r3_top.proofs.generate.generate.Goals as goal
@@ -32,10 +32,12 @@ returns-in-Err-clause-file_first g c = λ none. (
 pub returns-in-Err-clause-store_first : goal.returns-in-Err-clause-store_first
 returns-in-Err-clause-store_first g c = λ image is none.
     let at : EndsAtFile c.args.text.now (Some c.in-Err.halt) = at-accept c.args.text.now c.in-Err.halt c.requires.short c.in-Err.ensures.halts
-    (λ fault at. subst (λ (x : Text). IsRefused x fault) c.as_bytes.ensures.value (c.in-Err.ensures.refused fault at)) in
-    ends-early g.D.Desk.image g.D.Desk.said g.D.Desk.asked c.args.desk.now c.args.desk.now c.args.text.now c.in-Err.halt
-    (⊎_elim (λ b. inl b) (λ r. inr (r, says-none g.D.Desk.image g.D.Desk.said g.D.Desk.asked c.args.desk.now)) (refused-at-file c.args.text.now (g.D.Desk.image c.args.desk.now) c.in-Err.halt at))
-    (accept-early c.in-Err.halt c.in-Err.ensures.halts) (refl, refl)
+    (λ fault at. subst (λ (x : Text). IsRefused x fault) c.as_bytes.ensures.value (c.in-Err.ensures.refused fault at)) in (
+      ends-early g.D.Desk.image g.D.Desk.said g.D.Desk.asked c.args.desk.now c.args.desk.now c.args.text.now c.in-Err.halt
+          (⊎_elim (λ b. inl b) (λ r. inr (r, says-none g.D.Desk.image g.D.Desk.said g.D.Desk.asked c.args.desk.now)) (refused-at-file c.args.text.now (g.D.Desk.image c.args.desk.now) c.in-Err.halt at))
+          (accept-early c.in-Err.halt c.in-Err.ensures.halts) (refl, refl),
+      untouched-first g.D.Desk.image g.D.Desk.may_leave g.D.Desk.moment g.D.Desk.reach g.D.Desk.said g.D.Desk.asked g.D.Desk.syncs c.args.desk.now (g.met.D.Desk.counts_now c.args.desk.now) (g.met.D.Desk.only_now c.args.desk.now) c.requires.pending,
+    )
 
 pub returns-in-Err-clause-goes : goal.returns-in-Err-clause-goes
 returns-in-Err-clause-goes g c = λ image h is history has.
@@ -204,14 +206,24 @@ returns-in-Err-Say-clause-store_first g c = λ image is none.
 
 pub returns-in-Err-Start-Disk-clause-store_first : goal.returns-in-Err-Start-Disk-clause-store_first
 returns-in-Err-Start-Disk-clause-store_first g c = λ image is none. (
-  c.in-Err-Start-Disk.ensures.unsaid c.in-Err-Start-Disk.field-0-0 (at-start c.in-Err-Start-Disk.field-0 c.in-Err-Start-Disk.field-0-0 c.in-Err-Start-Disk.field-0-0 c.in-Err-Start-Disk.field-0-is refl),
-  c.in-Err-Start-Disk.ensures.unasked c.in-Err-Start-Disk.field-0-0 (at-start c.in-Err-Start-Disk.field-0 c.in-Err-Start-Disk.field-0-0 c.in-Err-Start-Disk.field-0-0 c.in-Err-Start-Disk.field-0-is refl),
+  (
+    c.in-Err-Start-Disk.ensures.unsaid c.in-Err-Start-Disk.field-0-0 (at-start c.in-Err-Start-Disk.field-0 c.in-Err-Start-Disk.field-0-0 c.in-Err-Start-Disk.field-0-0 c.in-Err-Start-Disk.field-0-is refl),
+    c.in-Err-Start-Disk.ensures.unasked c.in-Err-Start-Disk.field-0-0 (at-start c.in-Err-Start-Disk.field-0 c.in-Err-Start-Disk.field-0-0 c.in-Err-Start-Disk.field-0-0 c.in-Err-Start-Disk.field-0-is refl),
+  ),
+  untouched-read g.D.Desk.image g.D.Desk.may_leave g.D.Desk.moment g.D.Desk.reach g.D.Desk.said g.D.Desk.asked g.D.Desk.syncs c.args.desk.now c.run.new.desk
+      (c.run.ensures.alone image is (none-of c.args.text.now c.args.text.now image refl none))
+      (c.in-Err-Start-Disk.ensures.unsaid c.in-Err-Start-Disk.field-0-0 (at-start c.in-Err-Start-Disk.field-0 c.in-Err-Start-Disk.field-0-0 c.in-Err-Start-Disk.field-0-0 c.in-Err-Start-Disk.field-0-is refl)) (c.in-Err-Start-Disk.ensures.unasked c.in-Err-Start-Disk.field-0-0 (at-start c.in-Err-Start-Disk.field-0 c.in-Err-Start-Disk.field-0-0 c.in-Err-Start-Disk.field-0-0 c.in-Err-Start-Disk.field-0-is refl)),
 )
 
 pub returns-in-Err-Start-Memory-clause-store_first : goal.returns-in-Err-Start-Memory-clause-store_first
 returns-in-Err-Start-Memory-clause-store_first g c = λ image is none. (
-  c.in-Err-Start-Memory.ensures.unsaid c.in-Err-Start-Memory.field-0-0 (at-start c.in-Err-Start-Memory.field-0 c.in-Err-Start-Memory.field-0-0 c.in-Err-Start-Memory.field-0-0 c.in-Err-Start-Memory.field-0-is refl),
-  c.in-Err-Start-Memory.ensures.unasked c.in-Err-Start-Memory.field-0-0 (at-start c.in-Err-Start-Memory.field-0 c.in-Err-Start-Memory.field-0-0 c.in-Err-Start-Memory.field-0-0 c.in-Err-Start-Memory.field-0-is refl),
+  (
+    c.in-Err-Start-Memory.ensures.unsaid c.in-Err-Start-Memory.field-0-0 (at-start c.in-Err-Start-Memory.field-0 c.in-Err-Start-Memory.field-0-0 c.in-Err-Start-Memory.field-0-0 c.in-Err-Start-Memory.field-0-is refl),
+    c.in-Err-Start-Memory.ensures.unasked c.in-Err-Start-Memory.field-0-0 (at-start c.in-Err-Start-Memory.field-0 c.in-Err-Start-Memory.field-0-0 c.in-Err-Start-Memory.field-0-0 c.in-Err-Start-Memory.field-0-is refl),
+  ),
+  untouched-read g.D.Desk.image g.D.Desk.may_leave g.D.Desk.moment g.D.Desk.reach g.D.Desk.said g.D.Desk.asked g.D.Desk.syncs c.args.desk.now c.run.new.desk
+      (c.run.ensures.alone image is (none-of c.args.text.now c.args.text.now image refl none))
+      (c.in-Err-Start-Memory.ensures.unsaid c.in-Err-Start-Memory.field-0-0 (at-start c.in-Err-Start-Memory.field-0 c.in-Err-Start-Memory.field-0-0 c.in-Err-Start-Memory.field-0-0 c.in-Err-Start-Memory.field-0-is refl)) (c.in-Err-Start-Memory.ensures.unasked c.in-Err-Start-Memory.field-0-0 (at-start c.in-Err-Start-Memory.field-0 c.in-Err-Start-Memory.field-0-0 c.in-Err-Start-Memory.field-0-0 c.in-Err-Start-Memory.field-0-is refl)),
 )
 
 pub returns-in-Err-Start-Store-clause-store_first : goal.returns-in-Err-Start-Store-clause-store_first
@@ -221,9 +233,14 @@ returns-in-Err-Start-Store-clause-store_first g c = λ image is none.
     let bad : IsNoStore (g.D.Desk.image c.args.desk.now) c.entry_of.result = no-store (g.D.Desk.image c.args.desk.now) c.args.text.now c.in-Err-Start-Store.field-0-0 c.in-Err-Start-Store.fault c.in-Err-Start-Store.field-0-0-is opens
     (gen-others (g.D.Desk.image c.args.desk.now) c.args.text.now c.in-Err-Start-Store.field-0 c.in-Err-Start-Store.field-0-0 c.in-Err-Start-Store.field-0-is c.in-Err-Start-Store.ensures.other)
     (c.in-Err-Start-Store.ensures.causes c.in-Err-Start-Store.field-0-0 (at-start c.in-Err-Start-Store.field-0 c.in-Err-Start-Store.field-0-0 c.in-Err-Start-Store.field-0-0 c.in-Err-Start-Store.field-0-is refl)) c.entry_of.result c.entry_of.ensures in (
-      ((c.in-Ok.program, (c.requires.short, accepted)), bad),
-      says-same g.D.Desk.image g.D.Desk.said g.D.Desk.asked c.args.desk.now c.run.new.desk (c.in-Err-Start-Store.ensures.unsaid c.in-Err-Start-Store.field-0-0 (at-start c.in-Err-Start-Store.field-0 c.in-Err-Start-Store.field-0-0 c.in-Err-Start-Store.field-0-0 c.in-Err-Start-Store.field-0-is refl)) (c.in-Err-Start-Store.ensures.unasked c.in-Err-Start-Store.field-0-0 (at-start c.in-Err-Start-Store.field-0 c.in-Err-Start-Store.field-0-0 c.in-Err-Start-Store.field-0-0 c.in-Err-Start-Store.field-0-is refl))
-          (c.in-Err-Start-Store.ensures.kept c.in-Err-Start-Store.fault (at-start c.in-Err-Start-Store.field-0 c.in-Err-Start-Store.field-0-0 (starts.Store c.in-Err-Start-Store.fault) c.in-Err-Start-Store.field-0-is c.in-Err-Start-Store.field-0-0-is)),
+      (
+        ((c.in-Ok.program, (c.requires.short, accepted)), bad),
+        says-same g.D.Desk.image g.D.Desk.said g.D.Desk.asked c.args.desk.now c.run.new.desk (c.in-Err-Start-Store.ensures.unsaid c.in-Err-Start-Store.field-0-0 (at-start c.in-Err-Start-Store.field-0 c.in-Err-Start-Store.field-0-0 c.in-Err-Start-Store.field-0-0 c.in-Err-Start-Store.field-0-is refl)) (c.in-Err-Start-Store.ensures.unasked c.in-Err-Start-Store.field-0-0 (at-start c.in-Err-Start-Store.field-0 c.in-Err-Start-Store.field-0-0 c.in-Err-Start-Store.field-0-0 c.in-Err-Start-Store.field-0-is refl))
+            (c.in-Err-Start-Store.ensures.kept c.in-Err-Start-Store.fault (at-start c.in-Err-Start-Store.field-0 c.in-Err-Start-Store.field-0-0 (starts.Store c.in-Err-Start-Store.fault) c.in-Err-Start-Store.field-0-is c.in-Err-Start-Store.field-0-0-is)),
+      ),
+      untouched-read g.D.Desk.image g.D.Desk.may_leave g.D.Desk.moment g.D.Desk.reach g.D.Desk.said g.D.Desk.asked g.D.Desk.syncs c.args.desk.now c.run.new.desk
+          (c.run.ensures.alone image is (none-of c.args.text.now c.args.text.now image refl none))
+          (c.in-Err-Start-Store.ensures.unsaid c.in-Err-Start-Store.field-0-0 (at-start c.in-Err-Start-Store.field-0 c.in-Err-Start-Store.field-0-0 c.in-Err-Start-Store.field-0-0 c.in-Err-Start-Store.field-0-is refl)) (c.in-Err-Start-Store.ensures.unasked c.in-Err-Start-Store.field-0-0 (at-start c.in-Err-Start-Store.field-0 c.in-Err-Start-Store.field-0-0 c.in-Err-Start-Store.field-0-0 c.in-Err-Start-Store.field-0-is refl)),
     )
 
 pub returns-in-Err-Start-Other-clause-store_first : goal.returns-in-Err-Start-Other-clause-store_first
@@ -231,7 +248,12 @@ returns-in-Err-Start-Other-clause-store_first g c = λ image is none.
     let accepted : IsAccepted c.args.text.now c.in-Ok.program = subst (λ (x : Text). IsAccepted x c.in-Ok.program) c.as_bytes.ensures.value c.in-Ok.ensures.accepted in
     let opens : Opening-of (g.D.Desk.image c.args.desk.now) c.args.text.now c.in-Err-Start-Other.field-0-0 = λ h i there history has. c.in-Err-Start-Other.ensures.opens h i there history has c.in-Err-Start-Other.field-0-0 (at-start c.in-Err-Start-Other.field-0 c.in-Err-Start-Other.field-0-0 c.in-Err-Start-Other.field-0-0 c.in-Err-Start-Other.field-0-is refl) in
     let bad : IsOthers c.args.text.now (g.D.Desk.image c.args.desk.now) = gen-not-this (g.D.Desk.image c.args.desk.now) c.args.text.now c.in-Err-Start-Other.field-0-0 c.in-Err-Start-Other.field-0-0-is opens (c.in-Err-Start-Other.ensures.causes c.in-Err-Start-Other.field-0-0 (at-start c.in-Err-Start-Other.field-0 c.in-Err-Start-Other.field-0-0 c.in-Err-Start-Other.field-0-0 c.in-Err-Start-Other.field-0-is refl)) in (
-      ((c.in-Ok.program, (c.requires.short, accepted)), bad),
-      says-same g.D.Desk.image g.D.Desk.said g.D.Desk.asked c.args.desk.now c.run.new.desk (c.in-Err-Start-Other.ensures.unsaid c.in-Err-Start-Other.field-0-0 (at-start c.in-Err-Start-Other.field-0 c.in-Err-Start-Other.field-0-0 c.in-Err-Start-Other.field-0-0 c.in-Err-Start-Other.field-0-is refl)) (c.in-Err-Start-Other.ensures.unasked c.in-Err-Start-Other.field-0-0 (at-start c.in-Err-Start-Other.field-0 c.in-Err-Start-Other.field-0-0 c.in-Err-Start-Other.field-0-0 c.in-Err-Start-Other.field-0-is refl))
-          (c.in-Err-Start-Other.ensures.other_kept (at-start c.in-Err-Start-Other.field-0 c.in-Err-Start-Other.field-0-0 starts.Other c.in-Err-Start-Other.field-0-is c.in-Err-Start-Other.field-0-0-is)),
+      (
+        ((c.in-Ok.program, (c.requires.short, accepted)), bad),
+        says-same g.D.Desk.image g.D.Desk.said g.D.Desk.asked c.args.desk.now c.run.new.desk (c.in-Err-Start-Other.ensures.unsaid c.in-Err-Start-Other.field-0-0 (at-start c.in-Err-Start-Other.field-0 c.in-Err-Start-Other.field-0-0 c.in-Err-Start-Other.field-0-0 c.in-Err-Start-Other.field-0-is refl)) (c.in-Err-Start-Other.ensures.unasked c.in-Err-Start-Other.field-0-0 (at-start c.in-Err-Start-Other.field-0 c.in-Err-Start-Other.field-0-0 c.in-Err-Start-Other.field-0-0 c.in-Err-Start-Other.field-0-is refl))
+            (c.in-Err-Start-Other.ensures.other_kept (at-start c.in-Err-Start-Other.field-0 c.in-Err-Start-Other.field-0-0 starts.Other c.in-Err-Start-Other.field-0-is c.in-Err-Start-Other.field-0-0-is)),
+      ),
+      untouched-read g.D.Desk.image g.D.Desk.may_leave g.D.Desk.moment g.D.Desk.reach g.D.Desk.said g.D.Desk.asked g.D.Desk.syncs c.args.desk.now c.run.new.desk
+          (c.run.ensures.alone image is (none-of c.args.text.now c.args.text.now image refl none))
+          (c.in-Err-Start-Other.ensures.unsaid c.in-Err-Start-Other.field-0-0 (at-start c.in-Err-Start-Other.field-0 c.in-Err-Start-Other.field-0-0 c.in-Err-Start-Other.field-0-0 c.in-Err-Start-Other.field-0-is refl)) (c.in-Err-Start-Other.ensures.unasked c.in-Err-Start-Other.field-0-0 (at-start c.in-Err-Start-Other.field-0 c.in-Err-Start-Other.field-0-0 c.in-Err-Start-Other.field-0-0 c.in-Err-Start-Other.field-0-is refl)),
     )

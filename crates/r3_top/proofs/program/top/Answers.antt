@@ -5,8 +5,8 @@ use Rattle.r3_top.specs.declared.halt.Halt.{Halt}
 use Rattle.r3_top.specs.declared.halt.Halt.TheVariants as halts
 use Rattle.r3_words.specs.Forms.{gen}
 use Rattle.r3_gen.specs.declared.bank.TheConstants.{BANK}
-use Rattle.r3_top.specs.Going.{RunGoes, RecoverGoes, GenGoes}
-use Rattle.r3_top.proofs.Closing.{run-ends, recover-ends, gen-ends, run-goes, recover-goes, gen-goes, store-ends}
+use Rattle.r3_top.specs.Going.{RunGoes, RecoverGoes, GenGoes, CheckGoes}
+use Rattle.r3_top.proofs.Closing.{run-ends, recover-ends, gen-ends, run-goes, recover-goes, gen-goes, check-goes, store-ends, script-end}
 use Rattle.r3_top.proofs.Causing.{functions-cause, store-cause, program-cause, long-cause, disk-cause, input-cause, no-form, err-same, ok-halt, file-text, completes}
 use Rattle.r3_top.proofs.Standing.{cause-told, told-done, told-halted, known, only-disk, only-files, only-script}
 use Rattle.r3_top.proofs.Ordering.{own-status, silent-same, at-once, usage-at-once, neither-from, say-tells, fails-to-say}
@@ -148,12 +148,12 @@ returns-in-Err-clause-file_first g c = λ form text at there none.
     )
 
 pub returns-in-Ok-clause-refused_first : goal.returns-in-Ok-clause-refused_first
-returns-in-Ok-clause-refused_first g c = λ form text image at there opens is none. absurd (c.in-Ok.ensures.store_first form text image at there opens is none).1.0
+returns-in-Ok-clause-refused_first g c = λ form text image at there opens is none. absurd (c.in-Ok.ensures.store_first form text image at there opens is none).1.0.0
 
 pub returns-in-Err-clause-refused_first : goal.returns-in-Err-clause-refused_first
 returns-in-Err-clause-refused_first g c = λ form text image at there opens is none.
     let x = c.in-Err.ensures.store_first form text image at there opens is none in
-    (x.0, store-ends g.D.Desk.image g.D.Desk.may_leave g.D.Desk.moment g.D.Desk.reach g.D.Desk.said g.D.Desk.asked c.args.desk.now c.command.new.desk c.end.new.desk c.end.result text c.in-Err.halt c.end.ensures.closes x.1)
+    (x.0, store-ends g.D.Desk.image g.D.Desk.may_leave g.D.Desk.moment g.D.Desk.reach g.D.Desk.said g.D.Desk.asked g.D.Desk.syncs c.args.desk.now c.command.new.desk c.end.new.desk c.end.ensures.neither.no_sync c.end.result text c.in-Err.halt c.end.ensures.closes x.1)
 
 -- ---- the statuses
 
@@ -222,3 +222,52 @@ returns-in-Err-clause-gen_say_whole g c = λ number count image h at is history 
     fails-to-say (GenGoes g.D.Desk.image g.D.Desk.may_leave g.D.Desk.moment g.D.Desk.reach g.D.Desk.said g.D.Desk.asked c.args.desk.now c.end.new.desk BANK.now h number count) c.end.result five
     (gen-goes g.D.Desk.image g.D.Desk.may_leave g.D.Desk.moment g.D.Desk.reach g.D.Desk.said g.D.Desk.asked c.args.desk.now c.command.new.desk c.end.new.desk c.end.result
     BANK.now h number count c.in-Err.halt c.end.ensures.closes (c.in-Err.ensures.gen_goes number count image h at is history has))
+
+-- ---- a command without a store
+
+pub returns-in-Ok-clause-check_goes : goal.returns-in-Ok-clause-check_goes
+returns-in-Ok-clause-check_goes g c = λ functions text at there. (None, [], (refl, refl), c.in-Ok.ensures.check_goes functions text at there)
+
+pub returns-in-Err-clause-check_goes : goal.returns-in-Err-clause-check_goes
+returns-in-Err-clause-check_goes g c = λ functions text at there.
+    check-goes g.D.Desk.image g.D.Desk.may_leave g.D.Desk.moment g.D.Desk.reach g.D.Desk.said g.D.Desk.asked g.D.Desk.syncs c.args.desk.now c.command.new.desk c.end.new.desk c.end.ensures.neither.no_sync c.end.result
+    text c.in-Err.halt c.end.ensures.closes (c.in-Err.ensures.check_goes functions text at there)
+
+pub returns-in-Err-clause-check_say_whole : goal.returns-in-Err-clause-check_say_whole
+returns-in-Err-clause-check_say_whole g c = λ functions text at there five.
+    fails-to-say (CheckGoes g.D.Desk.image g.D.Desk.may_leave g.D.Desk.moment g.D.Desk.reach g.D.Desk.said g.D.Desk.asked g.D.Desk.syncs c.args.desk.now c.end.new.desk text) c.end.result five
+    (check-goes g.D.Desk.image g.D.Desk.may_leave g.D.Desk.moment g.D.Desk.reach g.D.Desk.said g.D.Desk.asked g.D.Desk.syncs c.args.desk.now c.command.new.desk c.end.new.desk c.end.ensures.neither.no_sync c.end.result
+    text c.in-Err.halt c.end.ensures.closes (c.in-Err.ensures.check_goes functions text at there))
+
+-- ---- the script has failed
+
+pub returns-in-Ok-clause-script_fails : goal.returns-in-Ok-clause-script_fails
+returns-in-Ok-clause-script_fails g c = λ functions text at there changed. absurd (changed (c.in-Ok.ensures.script_kept (λ e. ok-halt e)))
+
+pub returns-in-Err-clause-script_fails : goal.returns-in-Err-clause-script_fails
+returns-in-Err-clause-script_fails g c = λ functions text at there changed.
+    let is : c.in-Err.halt ≡ halts.Script = only-script c.in-Err.halt (λ none. c.in-Err.ensures.script_kept (λ e. none (err-same c.in-Err.halt halts.Script e))) changed in (
+      own-status c.end.result c.in-Err.halt halts.Script c.end.ensures.own is (λ l. l),
+      script-end g.D.Desk.image g.D.Desk.may_leave g.D.Desk.moment g.D.Desk.reach g.D.Desk.said g.D.Desk.asked c.args.desk.now c.command.new.desk c.end.new.desk c.end.result
+          (g.S.Source.left c.args.script.now) (g.S.Source.left c.command.new.script) text c.in-Err.halt is
+          (silent-same g.D.Desk.image g.D.Desk.may_leave g.D.Desk.moment g.D.Desk.reach g.D.Desk.said g.D.Desk.asked c.args.desk.now c.command.new.desk c.end.new.desk c.end.result c.in-Err.halt halts.Script is (λ l. l) c.end.ensures.closes)
+          (c.in-Err.ensures.runs functions text at there),
+    )
+
+pub returns-in-Err-clause-run_input : goal.returns-in-Err-clause-run_input
+returns-in-Err-clause-run_input g c = λ functions text at there six.
+    let E : Halt → Result (Unit {0}) Halt = λ (h : Halt). Err h in
+    ⊎_elim
+    (λ f. let x = c.in-Err.ensures.files (ap E f) in inl (
+      x.0,
+      silent-same g.D.Desk.image g.D.Desk.may_leave g.D.Desk.moment g.D.Desk.reach g.D.Desk.said g.D.Desk.asked c.args.desk.now c.command.new.desk c.end.new.desk c.end.result c.in-Err.halt halts.Files f (λ l. l) c.end.ensures.closes ∙ x.1,
+      x.2,
+    ))
+    (λ s. inr (
+      c.in-Err.ensures.script (ap E s),
+      script-end g.D.Desk.image g.D.Desk.may_leave g.D.Desk.moment g.D.Desk.reach g.D.Desk.said g.D.Desk.asked c.args.desk.now c.command.new.desk c.end.new.desk c.end.result
+          (g.S.Source.left c.args.script.now) (g.S.Source.left c.command.new.script) text c.in-Err.halt s
+          (silent-same g.D.Desk.image g.D.Desk.may_leave g.D.Desk.moment g.D.Desk.reach g.D.Desk.said g.D.Desk.asked c.args.desk.now c.command.new.desk c.end.new.desk c.end.result c.in-Err.halt halts.Script s (λ l. l) c.end.ensures.closes)
+          (c.in-Err.ensures.runs functions text at there),
+    ))
+    (input-cause c.end.result c.in-Err.halt c.end.ensures.status six)

@@ -24,9 +24,11 @@ pub returns-in-Err-clause-file_first : goal.returns-in-Err-clause-file_first
 returns-in-Err-clause-file_first g c = λ text there none. let x = c.in-Err.ensures.file_first text there none in x
 
 pub returns-in-Err-clause-store_first : goal.returns-in-Err-clause-store_first
-returns-in-Err-clause-store_first g c = λ text image there is none.
-    ends-early g.D.Desk.image g.D.Desk.said g.D.Desk.asked c.args.desk.now c.begin.new.desk text c.in-Err.halt
-    (c.in-Err.ensures.refuses text there) c.in-Err.ensures.early c.in-Err.ensures.unsaid
+returns-in-Err-clause-store_first g c = λ text image there is none. (
+  ends-early g.D.Desk.image g.D.Desk.said g.D.Desk.asked c.args.desk.now c.begin.new.desk text c.in-Err.halt
+      (c.in-Err.ensures.refuses text there) c.in-Err.ensures.early c.in-Err.ensures.unsaid,
+  c.in-Err.ensures.alone text image there is none,
+)
 
 -- ---- it was opened: the function file is taken, and the store is this program's
 
