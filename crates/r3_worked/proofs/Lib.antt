@@ -1,1 +1,5 @@
 mod Fitting
+mod Made
+mod Full
+mod Schedules
+mod Verdicts
