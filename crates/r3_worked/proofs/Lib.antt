@@ -3,3 +3,4 @@ mod Made
 mod Full
 mod Schedules
 mod Verdicts
+mod Copies
