@@ -51,7 +51,7 @@ program body params = items.Table (codes "acct") ∷ fee params ∷ pay body ∷
 another_one_changed : IsUnchanged (Some (program (gives 1 ∷ []) [])) (items.Flow (codes "f") [] [] ∷ program (gives 1 ∷ gives 2 ∷ []) []) (codes "take")
 another_one_changed = record { items = program (gives 1 ∷ []) []; accepted = refl; txn = refl; helpers = refl }
 
-abbrev statements : Option Item → ℕ
+abbrev pub statements : Option Item → ℕ
 statements (Some (items.Txn serial name params body)) = length body
 statements i = 0
 
@@ -59,13 +59,13 @@ abbrev params : List Item → ℕ
 params (items.Helper name ps body ∷ is) = length ps
 params is = 0
 
-abbrev stored : List Item
+abbrev pub stored : List Item
 stored = program (gives 1 ∷ []) []
 
-accepted_as : (changed : List Item) (name : Text) (u : IsUnchanged (Some stored) changed name) → u.items ≡ stored
+pub accepted_as : (changed : List Item) (name : Text) (u : IsUnchanged (Some stored) changed name) → u.items ≡ stored
 accepted_as changed name u = ap (λ (o : Option (List Item)). unwrap_or o []) (sym u.accepted)
 
-abbrev longer : List Item
+abbrev pub longer : List Item
 longer = program (gives 1 ∷ gives 2 ∷ []) []
 
 its_body_changed : IsUnchanged (Some stored) longer (codes "pay") → ⊥

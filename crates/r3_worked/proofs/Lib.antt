@@ -4,3 +4,4 @@ mod Full
 mod Schedules
 mod Verdicts
 mod Copies
+mod Reports
