@@ -5,3 +5,5 @@ mod Schedules
 mod Verdicts
 mod Copies
 mod Reports
+mod Orders
+mod Rounds

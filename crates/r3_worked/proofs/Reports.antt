@@ -1,6 +1,6 @@
 -- A worked report of a retroaction, whole; and reports that break it.
-use Rattle.std.proofs.Common.{◌≡◌, ◌≢◌, ℕ, ◌<◌, Bool, true, false, not, cond, List, [], ◌∷◌, length, Option, Some, None, refl, sym, ap, subst, ◌∙◌, ◌↔◌, pos, arith, lit<}
-use Rattle.std.specs.Prelude.{codes, bytes_eq, find, count_by, IsTrue, Contains, ⊤, option_and_then}
+use Rattle.std.proofs.Common.{◌≡◌, ◌≢◌, ℕ, Bool, true, false, not, cond, List, [], ◌∷◌, Option, Some, None, refl, sym, ap, subst, ◌∙◌, ◌↔◌, pos, arith, lit<}
+use Rattle.std.specs.Prelude.{codes, bytes_eq, find, IsTrue, ⊤, option_and_then}
 use Rattle.std.specs.Ordering.{is_eq}
 use Rattle.std.specs.FinMap.Entries as entries
 use Rattle.std.specs.declared.cmp.Ordering.TheVariants.{Less, Equal, Greater}
@@ -21,10 +21,9 @@ use Rattle.r3_entry.specs.History.{Map, map_at, cell_at}
 use Rattle.fn_tree.specs.declared.program.Item.{Item}
 use Rattle.r3_model.specs.Language.{Text}
 use Rattle.r3_model.specs.Rows.{user_of, flow_of}
-use Rattle.r3_model.specs.Run.{Trail}
-use Rattle.r3_model.specs.Copied.{IsUnchanged, is_txn_of, is_copied}
+use Rattle.r3_model.specs.Copied.{IsUnchanged, is_txn_of}
 use Rattle.r3_model.specs.Retro.{Recorded}
-use Rattle.r3_model.specs.Report.{Standing, Absent, Ended, Other, standing_of, standing_in, row_in, FlowLine, RowLine, Report, IsFlowLine, IsRowLine, AreFlowLines, AreRowLines, IsReport}
+use Rattle.r3_model.specs.Report.{Standing, Absent, Ended, Other, standing_of, FlowLine, RowLine, Report, IsFlowLine, IsRowLine, AreFlowLines, AreRowLines, IsReport}
 use Rattle.r3_model.proofs.Bank.{args2}
 use Rattle.r3_model.proofs.WorkedReplay.{int, txt, m1, d1, plain, flow, row, step_row, args_m1, args_d1, requests}
 use Rattle.r3_model.proofs.WorkedRetro.{changed}
