@@ -7,3 +7,5 @@ mod Copies
 mod Reports
 mod Orders
 mod Rounds
+mod Lines
+mod Going
