@@ -9,3 +9,6 @@ mod Orders
 mod Rounds
 mod Lines
 mod Going
+mod Fits
+mod States
+mod Languages
