@@ -1,1 +1,14 @@
 mod Fitting
+mod Made
+mod Full
+mod Schedules
+mod Verdicts
+mod Copies
+mod Reports
+mod Orders
+mod Rounds
+mod Lines
+mod Going
+mod Fits
+mod States
+mod Languages

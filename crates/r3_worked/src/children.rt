@@ -137,3 +137,49 @@ fn an_await_takes_a_failure_where_no_outcome_comes(rt: HostRuntime) -> Result<()
     ];
     played(&rt, rt.alloc(), BANK, &steps)
 }
+
+// A hyphen and the number make 200 bytes.
+#[test]
+fn a_child_id_may_have_200_bytes(rt: HostRuntime) -> Result<(), Fail> {
+    let alloc = rt.alloc();
+    let id = "p".repeat(alloc, 198)?;
+    let id = id.as_str();
+    let start = format!(in alloc; "start {id} both a b 3")?;
+    let started = format!(in alloc; "entry 3 {id}")?;
+    let turn = format!(in alloc; "turn {id}")?;
+    let entry = format!(in alloc;
+        "child {id} 0 {id}-0 on 3; {id}-0 = PENDING; {id}#0 = child send value {id}-0"
+    )?;
+    let steps = [
+        LOAD,
+        (start.as_str(), started.as_str()),
+        (turn.as_str(), "entry 4"),
+        ("entry 4", entry.as_str()),
+    ];
+    played(&rt, alloc, BANK, &steps)
+}
+
+// One byte more: the step fails, nothing starts, and the act has the parent's ID.
+#[test]
+fn a_child_id_that_is_too_long_fails_its_step(rt: HostRuntime) -> Result<(), Fail> {
+    let alloc = rt.alloc();
+    let id = "p".repeat(alloc, 199)?;
+    let id = id.as_str();
+    let start = format!(in alloc; "start {id} both a b 3")?;
+    let started = format!(in alloc; "entry 3 {id}")?;
+    let turn = format!(in alloc; "turn {id}")?;
+    let entry = format!(in alloc; "child {id} 0 {id} on 3; {id}#0 = child send failure id")?;
+    let status = format!(in alloc; "status {id}")?;
+    let steps = [
+        LOAD,
+        (start.as_str(), started.as_str()),
+        (turn.as_str(), "entry 4"),
+        ("entry 4", entry.as_str()),
+        (turn.as_str(), "entry 5"),
+        (
+            status.as_str(),
+            "ERROR both a b 3; failure id; queue none; started 3; attempts 0; parent none",
+        ),
+    ];
+    played(&rt, alloc, BANK, &steps)
+}

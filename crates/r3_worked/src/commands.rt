@@ -158,3 +158,23 @@ fn a_fork_does_only_what_comes_after_its_steps(rt: HostRuntime) -> Result<(), Fa
     ];
     played(&rt, rt.alloc(), BANK, &steps)
 }
+
+#[test]
+fn an_id_has_at_most_200_bytes(rt: HostRuntime) -> Result<(), Fail> {
+    let alloc = rt.alloc();
+    let id = "i".repeat(alloc, 200)?;
+    let id = id.as_str();
+    let start = format!(in alloc; "start {id} wait x")?;
+    let started = format!(in alloc; "entry 2 {id}")?;
+    let longer = format!(in alloc; "start {id}i wait x")?;
+    let enqueued = format!(in alloc; "enqueue {id}i mail wait x")?;
+    let forked = format!(in alloc; "fork {id} 0 {id}i")?;
+    let steps = [
+        (longer.as_str(), "refused id"),
+        (start.as_str(), started.as_str()),
+        (enqueued.as_str(), "refused id"),
+        (forked.as_str(), "refused id"),
+        ("len", "2"),
+    ];
+    played(&rt, alloc, BANK, &steps)
+}

@@ -190,6 +190,47 @@ fn a_drain_ends_when_its_turns_are_spent(rt: HostRuntime) -> Result<(), Fail> {
     played(&rt, rt.alloc(), BANK, &steps)
 }
 
+// A dequeue and a turn change nothing: two turns are enough to see it, and one isn't.
+#[test]
+fn a_drain_may_be_idle_on_its_last_turn(rt: HostRuntime) -> Result<(), Fail> {
+    let steps = [
+        ("start w1 wait w1", "entry 2 w1"),
+        ("drain 1", "spent 1"),
+        ("drain 2", "idle 2"),
+        ("len", "2"),
+    ];
+    played(&rt, rt.alloc(), BANK, &steps)
+}
+
+// Four rounds of a dequeue and a turn, and a last dequeue that finds nothing.
+#[test]
+fn a_transfer_takes_nine_turns(rt: HostRuntime) -> Result<(), Fail> {
+    let steps = [
+        LOAD,
+        ("start m1 move a b 3", "entry 3 m1"),
+        ("drain 8", "spent 8, called m1 1 notify b 3: value null"),
+        ("turn m1", "none SUCCESS"),
+        ("start m2 move a b 3", "entry 7 m2"),
+        ("drain 9", "idle 9, called m2 1 notify b 3: value null"),
+    ];
+    played(&rt, rt.alloc(), BANK, &steps)
+}
+
+// The turns of a round are those of the workflows that run at its start.
+#[test]
+fn a_child_has_its_first_turn_in_the_next_round(rt: HostRuntime) -> Result<(), Fail> {
+    let steps = [
+        LOAD,
+        ("start p1 both a b 3", "entry 3 p1"),
+        // a dequeue, the turn that starts the child, and the dequeue of the next round
+        ("drain 3", "spent 3"),
+        ("pending", " p1 p1-0"),
+        ("turn p1-0", "began 4"),
+        ("drain 100", "idle 11"),
+    ];
+    played(&rt, rt.alloc(), BANK, &steps)
+}
+
 #[test]
 fn a_drain_gives_each_workflow_a_turn_a_round(rt: HostRuntime) -> Result<(), Fail> {
     let steps = [
@@ -233,4 +274,27 @@ fn a_queue_starts_the_first_enqueued_within_its_bound(rt: HostRuntime) -> Result
         ("turn e3", "none ENQUEUED"),
     ];
     played(&rt, rt.alloc(), BANK, &steps)
+}
+
+const TWO: &str = r#"queue mail 2;
+flow wait(me) { let r = await me; return r; }
+"#;
+
+// Two run, and the third when one of them is gone.
+#[test]
+fn a_queue_of_two_runs_two_at_a_time(rt: HostRuntime) -> Result<(), Fail> {
+    let steps = [
+        ("enqueue e1 mail wait e1", "entry 2 e1"),
+        ("enqueue e2 mail wait e2", "entry 3 e2"),
+        ("enqueue e3 mail wait e3", "entry 4 e3"),
+        ("dequeue mail", "entry 5 e1"),
+        ("dequeue mail", "entry 6 e2"),
+        ("dequeue mail", "limit 2"),
+        ("cancel e1", "entry 7"),
+        ("dequeue mail", "entry 8 e3"),
+        ("dequeue mail", "limit 2"),
+        ("cancel e2", "entry 9"),
+        ("dequeue mail", "empty"),
+    ];
+    played(&rt, rt.alloc(), TWO, &steps)
 }

@@ -1,7 +1,8 @@
 //! Worked cases of the plain machine: what it answers to each event and which entries stand then, worked out by hand.
 //!
-//! The crate has tests alone. A case is a table of steps in words, each with the answer that it must give; nothing is
-//! stored, and no file is written.
+//! The crate has tests and theorems. A case of the tests is a table of steps in words, each with the answer that it must
+//! give; nothing is stored, and no file is written. The files of proofs/ are cases that the checker computes: for each
+//! definition a case that meets it, and cases that break it.
 #![tactic(auto)]
 
 #[cfg(test)]
