@@ -54,12 +54,12 @@ closes_now old mid new h from stands gate due not_due =
     let count : new.store.gate.count ≡ length h = ap (λ (g : Gate). g.count) gate ∙ stands.count in
     ⊎_elim
     (λ (long : mid.vacuumed + 1024 ≤ length h).
-        let d = due long in
-        let noted : new.vacuumed ≡ new.store.gate.count = d.noted in
-        record { noted = inr (omega (arith, long, count, from), discarded mid new d); few_since = λ fewer. omega (arith, noted) })
+    let d = due long in
+    let noted : new.vacuumed ≡ new.store.gate.count = d.noted in
+    record { noted = inr (omega (arith, long, count, from), discarded mid new d); few_since = λ fewer. omega (arith, noted) })
     (λ (short : length h < mid.vacuumed + 1024).
-        let same : new.vacuumed ≡ mid.vacuumed = ap (λ (e : Exec). e.vacuumed) (not_due short) in
-        record { noted = inl (same ∙ from); few_since = λ fewer. omega (arith, same, short, count) })
+    let same : new.vacuumed ≡ mid.vacuumed = ap (λ (e : Exec). e.vacuumed) (not_due short) in
+    record { noted = inl (same ∙ from); few_since = λ fewer. omega (arith, same, short, count) })
     (in_time (mid.vacuumed + 1024) (length h))
 
 -- no snapshot is closed

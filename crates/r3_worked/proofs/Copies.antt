@@ -71,7 +71,7 @@ longer = program (gives 1 ∷ gives 2 ∷ []) []
 its_body_changed : IsUnchanged (Some stored) longer (codes "pay") → ⊥
 its_body_changed u =
     let z : find (is_txn_of (codes "pay")) stored ≡ find (is_txn_of (codes "pay")) longer =
-        subst (λ (is : List Item). find (is_txn_of (codes "pay")) is ≡ find (is_txn_of (codes "pay")) longer) (accepted_as longer (codes "pay") u) u.txn in
+    subst (λ (is : List Item). find (is_txn_of (codes "pay")) is ≡ find (is_txn_of (codes "pay")) longer) (accepted_as longer (codes "pay") u) u.txn in
     let n : 1 ≡ 2 = ap statements z in
     absurd (omega (arith, n))
 
@@ -92,7 +92,7 @@ gone = items.Table (codes "acct") ∷ fee [] ∷ take ∷ []
 it_is_gone : IsUnchanged (Some stored) gone (codes "pay") → ⊥
 it_is_gone u =
     let z : find (is_txn_of (codes "pay")) stored ≡ find (is_txn_of (codes "pay")) gone =
-        subst (λ (is : List Item). find (is_txn_of (codes "pay")) is ≡ find (is_txn_of (codes "pay")) gone) (accepted_as gone (codes "pay") u) u.txn in
+    subst (λ (is : List Item). find (is_txn_of (codes "pay")) is ≡ find (is_txn_of (codes "pay")) gone) (accepted_as gone (codes "pay") u) u.txn in
     let n : 1 ≡ 0 = ap statements z in
     absurd (omega (arith, n))
 

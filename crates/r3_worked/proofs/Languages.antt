@@ -157,6 +157,6 @@ writes_to_no_table : IsLimited (with_txn (record no_run { writes = ([], codes "k
 writes_to_no_table l =
     let args : Val = ListOf no_items in
     let run = l.runs function args empty (record { proper = tt; small = lit≤ tt; shallow = lit≤ tt }, lit≤ tt)
-      (record { cells = λ table key. tt; versions = λ table key. lit< tt; keys = λ table lo hi. tt }) in
+    (record { cells = λ table key. tt; versions = λ table key. lit< tt; keys = λ table lo hi. tt }) in
     let z : 1 ≤ 0 = run.puts.0.0.long in
     absurd (omega (arith, z))

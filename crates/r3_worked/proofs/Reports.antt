@@ -174,7 +174,7 @@ pay_has_changed name is u =
     let old : statements (find (is_txn_of name) stored) ≡ 1 = rw is refl in
     let new : statements (find (is_txn_of name) longer) ≡ 2 = rw is refl in
     let same : find (is_txn_of name) stored ≡ find (is_txn_of name) longer =
-        subst (λ (is : List Item). find (is_txn_of name) is ≡ find (is_txn_of name) longer) (accepted_as longer name u) u.txn in
+    subst (λ (is : List Item). find (is_txn_of name) is ≡ find (is_txn_of name) longer) (accepted_as longer name u) u.txn in
     let z : 1 ≡ 2 = sym old ∙ ap statements same ∙ new in
     absurd (omega (arith, z))
 

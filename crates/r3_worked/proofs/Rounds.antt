@@ -99,16 +99,19 @@ first_started_then_by_id = refl
 abbrev with_attempts : ℕ → List Entry
 with_attempts n =
     plain 0 (acts.Program (codes "bank")) []
-    ∷ plain 1 (acts.Start s1) ((keys.Flow s1, Some (cells.Flow (record {
-      status = Pending;
-      function = codes "send";
-      args = args_m1;
-      outcome = None;
-      queue = None;
-      started = 2;
-      attempts = n;
-      parent = None;
-    }))) ∷ [])
+    ∷ plain 1 (acts.Start s1) ((
+      keys.Flow s1,
+      Some (cells.Flow (record {
+        status = Pending;
+        function = codes "send";
+        args = args_m1;
+        outcome = None;
+        queue = None;
+        started = 2;
+        attempts = n;
+        parent = None;
+      })),
+    ) ∷ [])
     ∷ []
 
 abbrev attempts_of : Trail → Option (Status × ℕ)

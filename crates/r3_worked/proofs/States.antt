@@ -121,8 +121,8 @@ one_is_open = record {
   each = λ id s. elim (bytes_cmp id m1) as (λ o. bytes_cmp id m1 ≡ o → cond (is_eq o) (Some 3) None ≡ Some s → IsOpen bank before id s) [
     | Less ↦ λ t is. (let z : 0 ≡ 1 = ap is_some_number is in absurd (omega (arith, z)))
     | Equal ↦ λ t is. (
-      let n : 3 ≡ s = ap (λ (o : Option ℕ). unwrap_or o 0) is in
-      subst (λ (i : Text). IsOpen bank before i s) (sym (same_text id m1 t)) (subst (λ (k : ℕ). IsOpen bank before m1 k) n it_is_open))
+        let n : 3 ≡ s = ap (λ (o : Option ℕ). unwrap_or o 0) is in
+        subst (λ (i : Text). IsOpen bank before i s) (sym (same_text id m1 t)) (subst (λ (k : ℕ). IsOpen bank before m1 k) n it_is_open))
     | Greater ↦ λ t is. (let z : 0 ≡ 1 = ap is_some_number is in absurd (omega (arith, z)))
   ] refl;
 }

@@ -17,13 +17,17 @@ abbrev changed : List Entry
 changed = before ++ paid 3 4 ∷ told ∷ []
 
 m1_differs : IsVerdictOn bank m1 changed (Differs 4)
-m1_differs = (3, refl, record {
-  entry = paid 3 4;
-  at = refl;
-  of_id = refl;
-  before = (tt, (tt, (record { reply = EntryOf 3 m1; gives = refl; fits = refl; program = refl; below = omega arith; own = refl }, tt)));
-  here = another_outcome.0;
-})
+m1_differs = (
+  3,
+  refl,
+  record {
+    entry = paid 3 4;
+    at = refl;
+    of_id = refl;
+    before = (tt, (tt, (record { reply = EntryOf 3 m1; gives = refl; fits = refl; program = refl; below = omega arith; own = refl }, tt)));
+    here = another_outcome.0;
+  },
+)
 
 -- an entry of no workflow, that agrees with nothing, is of no verdict on a workflow
 m1_is_the_same : IsVerdictOn bank m1 (program ∷ loaded ∷ started ∷ plain 3 acts.Load [] ∷ []) (Same 1)
