@@ -36,28 +36,27 @@ all_alike (suc n) (suc k) d lt = all_alike n k d (omega (arith, lt))
 -- ---- 1 to 1,024 rows
 
 a_load_of_one_row : IsFit (Load (codes "acct") (replicate 1 a_row))
-unfolding is_utf8 chars encode
-a_load_of_one_row = (record { long = lit≤ tt; short = lit≤ tt; utf8 = refl }, lit≤ tt, lit≤ tt, all_alike 1)
+a_load_of_one_row = (lit≤ tt, lit≤ tt, all_alike 1)
 
 a_load_of_1024_rows : IsFit (Load (codes "acct") (replicate 1024 a_row))
-unfolding is_utf8 chars encode
-a_load_of_1024_rows = (record { long = lit≤ tt; short = lit≤ tt; utf8 = refl }, lit≤ tt, lit≤ tt, all_alike 1024)
+a_load_of_1024_rows = (lit≤ tt, lit≤ tt, all_alike 1024)
 
 a_load_of_no_rows : IsFit (Load (codes "acct") []) → ⊥
-a_load_of_no_rows f = let z : 1 ≤ 0 = f.1 in absurd (omega (arith, z))
+a_load_of_no_rows f = let z : 1 ≤ 0 = f.0 in absurd (omega (arith, z))
 
 a_load_of_1025_rows : IsFit (Load (codes "acct") (replicate 1025 a_row)) → ⊥
-a_load_of_1025_rows f = let z : 1025 ≤ 1024 = f.2 in absurd (omega (arith, z))
+a_load_of_1025_rows f = let z : 1025 ≤ 1024 = f.1 in absurd (omega (arith, z))
 
-a_load_of_no_table : IsFit (Load [] (a_row ∷ [])) → ⊥
-a_load_of_no_table f = let z : 1 ≤ 0 = f.0.long in absurd (omega (arith, z))
+-- the machine refuses a table that isn't declared
+a_load_of_any_table : IsFit (Load [] (replicate 1 a_row))
+a_load_of_any_table = (lit≤ tt, lit≤ tt, all_alike 1)
 
 a_row_without_a_key : IsFit (Load (codes "acct") (a_row ∷ ([], int 1) ∷ [])) → ⊥
-a_row_without_a_key f = let key = f.3 1 a_row (lit< tt) in let z : 1 ≤ 0 = key.0.long in absurd (omega (arith, z))
+a_row_without_a_key f = let key = f.2 1 a_row (lit< tt) in let z : 1 ≤ 0 = key.0.long in absurd (omega (arith, z))
 
 -- a text of 4,092 bytes has 4,097 with its length
 a_row_that_is_too_large : IsFit (Load (codes "acct") ((codes "a", TextVal (replicate 4092 97)) ∷ [])) → ⊥
-a_row_that_is_too_large f = let row = f.3 0 a_row (lit< tt) in let z : 4097 ≤ 4096 = row.1.small in absurd (omega (arith, z))
+a_row_that_is_too_large f = let row = f.2 0 a_row (lit< tt) in let z : 4097 ≤ 4096 = row.1.small in absurd (omega (arith, z))
 
 -- ---- arguments are a list
 
@@ -83,13 +82,14 @@ a_start_whose_id_is_no_text : IsFit (Start (Some (255 ∷ [])) (codes "wait") (a
 unfolding is_utf8 chars encode
 a_start_whose_id_is_no_text f = let z : 0 ≡ 1 = ap is_yes f.0 in absurd (omega (arith, z))
 
--- ---- forks copy 1,000 steps at most
+-- ---- a fork names any step, and the machine refuses one that isn't recorded
 
-a_fork_of_1000 : IsFit (Fork (codes "m1") 1000 None)
-a_fork_of_1000 = (lit≤ tt, tt)
+a_fork_of_any_step : IsFit (Fork (codes "m1") 1000 None) × IsFit (Fork (codes "m1") 1001 None)
+a_fork_of_any_step = (tt, tt)
 
-a_fork_of_1001 : IsFit (Fork (codes "m1") 1001 None) → ⊥
-a_fork_of_1001 f = let z : 1001 ≤ 1000 = f.0 in absurd (omega (arith, z))
+a_fork_whose_id_is_no_text : IsFit (Fork (codes "m1") 0 (Some (255 ∷ []))) → ⊥
+unfolding is_utf8 chars encode
+a_fork_whose_id_is_no_text f = let z : 0 ≡ 1 = ap is_yes f in absurd (omega (arith, z))
 
 -- any text cancels, resumes and recovers
 of_any_text : IsFit (Cancel []) × IsFit (Resume []) × IsFit (Recover [])

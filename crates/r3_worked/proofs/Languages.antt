@@ -55,8 +55,13 @@ abbrev is_some : Option ℕ → ℕ
 is_some None = 0
 is_some (Some n) = 1
 
+abbrev is_yes : Bool → ℕ
+is_yes true = 1
+is_yes false = 0
+
 it_is_limited : IsLimited idle
 it_is_limited = record {
+  table_names = λ table is. (let z : 0 ≡ 1 = ap is_yes is in absurd (omega (arith, z)));
   names = λ function n is. (let z : 0 ≡ 1 = ap is_some is in absurd (omega (arith, z)));
   queue_names = tt;
   ends = λ function args answers fit are. record { proper = tt; small = lit≤ tt; shallow = lit≤ tt };
@@ -118,10 +123,6 @@ looks_too_often l = let z : 4097 ≤ 4096 = (l.looks_true function Null empty).f
 writes_too_many : IsLawful (with_txn (record no_run { writes = replicate 1025 (codes "t", codes "k", None) })) → ⊥
 writes_too_many l = let z : 1025 ≤ 1024 = (l.looks_true function Null empty).few_puts in absurd (omega (arith, z))
 
-abbrev is_yes : Bool → ℕ
-is_yes true = 1
-is_yes false = 0
-
 writes_out_of_order : IsLawful (with_txn (record no_run { writes = (codes "t", codes "l", None) ∷ (codes "t", codes "k", None) ∷ [] })) → ⊥
 writes_out_of_order l = let z : 0 ≡ 1 = ap is_yes (l.looks_true function Null empty).rising in absurd (omega (arith, z))
 
@@ -133,6 +134,9 @@ has_17_parameters l = let z : 17 ≤ 16 = (l.names function 17 refl).1 in absurd
 -- each name is declared, also the empty one
 has_no_name : IsLimited (record idle { arity = λ name. Some 1 }) → ⊥
 has_no_name l = let z : 1 ≤ 0 = (l.names [] 1 refl).0.long in absurd (omega (arith, z))
+
+has_a_table_without_a_name : IsLimited (record idle { has_table = λ name. true }) → ⊥
+has_a_table_without_a_name l = let z : 1 ≤ 0 = (l.table_names [] refl).long in absurd (omega (arith, z))
 
 has_a_queue_without_a_name : IsLimited (record idle { queues = record { name = []; bound = 1 } ∷ [] }) → ⊥
 has_a_queue_without_a_name l = let z : 1 ≤ 0 = l.queue_names.0.long in absurd (omega (arith, z))

@@ -102,10 +102,10 @@ fn load(alloc: Global, table: &str) -> Result<Command, Memory>
 fn fork(alloc: Global, source: &str, step: &str, to: &str) -> Result<Option<Command>, Memory>
     ensures { IfOk result (λ c. IfSome c IsFit) }
 {
-    let step = step.parse::<u32>().unwrap_or(1001);
-    if step > 1000 {
-        return Ok(None);
-    }
+    let step = match step.parse::<u32>() {
+        Ok(step) => step,
+        Err(_) => return Ok(None),
+    };
     let source = text_of(alloc, source)?;
     let to = id_of(alloc, to)?;
     Ok(Some(Command::Fork { source, step, to }))
