@@ -106,10 +106,10 @@ fn put(alloc: Global, table: &str, key: &str, number: &str) -> Result<Option<Com
 fn fork(alloc: Global, source: &str, step: &str, to: &str) -> Result<Option<Command>, Memory>
     ensures { IfOk result (λ c. IfSome c IsGiven) }
 {
-    let step = step.parse::<u32>().unwrap_or(1001);
-    if step > 1000 {
-        return Ok(None);
-    }
+    let step = match step.parse::<u32>() {
+        Ok(step) => step,
+        Err(_) => return Ok(None),
+    };
     let source = text_of(alloc, source)?;
     let to = id_of(alloc, to)?;
     Ok(Some(Command::Fork { source, step, to }))

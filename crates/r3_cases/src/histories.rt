@@ -215,6 +215,7 @@ fn an_id_is_used_once(rt: HostRuntime) -> Result<(), Fail> {
         ("start s1 nobody a b 3", "refused unknown_function"),
         ("enqueue s1 none send a b 3", "refused unknown_queue"),
         ("fork s1 1 e1", "refused step"),
+        ("fork s1 1001 e1", "refused step"),
         ("fork nobody 0 e1", "refused unknown_id"),
         ("cancel s1", "entry 6"),
         ("start s1 send a b 3", "entry 3 s1"),
