@@ -7,15 +7,17 @@ use Rattle.std.specs.declared.cmp.Ordering.{Ordering}
 use Rattle.std.specs.declared.cmp.Ordering.TheVariants.{Less, Equal, Greater}
 use Rattle.std.specs.FinMap.{find, IsAntisymmetric}
 use Rattle.std.specs.FinMap.Entries.{put, by_order, find-put}
-use Rattle.r3_pool.specs.Slots.{Slots, Fills, with_spare}
+use Rattle.r3_pool.specs.Slots.{Slots, Fills, live_count, with_spare}
 use Rattle.r3_chain.specs.Versions.{versions_of, installed, has_room, without, IsNext}
 use Rattle.r3_chain.specs.Links.{chain_in, IsChain}
 use Rattle.r3_chain.specs.Heads.{newest_in, roomed, written, room_in, kept_by}
 use Rattle.r3_chain.specs.Sound.{room_count, IsSound}
+use Rattle.r3_chain.specs.Long.{listed, IsLong}
 use Rattle.r3_chain.specs.declared.node.Node.{Node}
 use Rattle.r3_chain.specs.declared.head.Head.{Head}
-use Rattle.r3_chain.proofs.RoomLemmas.{roomed_newest, sound_all, kept_all, count_all, keys_all, none_yet, later_round, next_round, more_spare}
-use Rattle.r3_chain.proofs.SoundLemmas.{head_chain, chain_is, has_head, sound_after, versions_after, room_after}
+use Rattle.r3_chain.proofs.RoomLemmas.{roomed_newest, sound_all, uses_all, kept_all, count_all, keys_all, none_yet, later_round, next_round, more_spare}
+use Rattle.r3_chain.proofs.SoundLemmas.{head_chain, chain_is, has_head, one_less, sound_after, versions_after, room_after}
+use Rattle.r3_chain.proofs.WholeLemmas.{long_same, long_spare, long_after}
 
 module _ {K : Type 0} (cmp : K → K → Ordering) (o : IsTotalOrder cmp) where
   -- the later of two heads of a key counts
@@ -47,6 +49,8 @@ module _ {K V : Type 0} (cmp : K → K → Ordering) (o : IsTotalOrder cmp) wher
     pub sound : IsSound cmp (put cmp key (written s) es) new cap next next
     pub versions : kept_by (chain_in new) (put cmp key (written s) es) ≡ installed cmp index key x (kept_by (chain_in old) es)
     pub room : room_in next (put cmp key (written s) es) ≡ []
+    pub none : room_count next (put cmp key (written s) es) ≡ 0
+    pub long : (ss : List ℕ) → IsLong (live_count old) old es ss → IsLong (live_count new) new (put cmp key (written s) es) (listed s (newest_in (find cmp key es)) ss)
 
   pub added : (es : List (K × Head)) (old mid new : Slots (Node V)) (cap round last s index : ℕ) (key : K) (x : Option V)
       → IsSound cmp es old cap round last → mid ≡ with_spare old (max old.spare 1) → IsAntisymmetric cmp → IsNext cmp index key (kept_by (chain_in old) es)
@@ -78,7 +82,17 @@ module _ {K V : Type 0} (cmp : K → K → Ordering) (o : IsTotalOrder cmp) wher
       subst (λ t. Fills mid new s (record { index = index; value = x; older = t })) (sym found) fills in
       let next' : IsNext cmp index key (kept_by (chain_in mid) given) = subst (IsNext cmp index key) (sym kept) next in
       let once : put cmp key (written s) given ≡ put cmp key (written s) es = put_again cmp o key (written s) (roomed round (last + 1) (find cmp key es)) es in
+      let less : room_count (last + 1) (put cmp key (written s) given) + 1 ≡ room_count (last + 1) given =
+      one_less cmp o given mid new cap (last + 1) (last + 1) s index key x counts head.0 head.1.0 fills' head.1.1 (omega arith) in
+      let zero_now : room_count (last + 1) (put cmp key (written s) given) ≡ 0 = omega arith in
       record {
+        none = ap (room_count (last + 1)) (sym once) ∙ zero_now;
+        long = λ ss l.
+            let base' : IsLong (live_count mid) mid es ss = subst (λ p. IsLong (live_count p) p es ss) (sym is) (long_spare (max old.spare 1) old es ss l) in
+            let given' : IsLong (live_count mid) mid given ss = long_same (live_count mid) (live_count mid) mid es given ss (uses_all cmp o mid cap round (last + 1) (last + 1) (key ∷ []) es lt le later) base' in
+            subst (λ hs. IsLong (live_count new) new hs (listed s (newest_in (find cmp key es)) ss)) once
+            (subst (λ r. IsLong (live_count new) new (put cmp key (written s) given) (listed s r ss)) found
+            (long_after cmp o given mid new cap (last + 1) (last + 1) s index key x counts head.0 head.1.0 fills' ss given'));
         sound = subst (λ hs. IsSound cmp hs new cap (last + 1) (last + 1)) once
             (sound_after cmp o given mid new cap (last + 1) (last + 1) s index key x counts head.0 head.1.0 fills' same next' head.1.1 cap_is spare_is);
         versions = ap (kept_by (chain_in new)) (sym once)

@@ -20,19 +20,19 @@ one_most : (b : Bool) → one_if b ≤ 1
 one_most true = omega arith
 one_most false = omega arith
 
-total_append : {K : Type 0} (w : Head → ℕ) (xs ys : List (K × Head)) → total w (xs ++ ys) ≡ total w xs + total w ys
+pub total_append : {K : Type 0} (w : Head → ℕ) (xs ys : List (K × Head)) → total w (xs ++ ys) ≡ total w xs + total w ys
 total_append w [] ys = omega arith
 total_append w (x ∷ xs) ys = let rest : total w (xs ++ ys) ≡ total w xs + total w ys = total_append w xs ys in omega arith
 
-all_append : {A : Type 0} (P : A → Type 0) (xs ys : List A) → AllByRecursion P xs → AllByRecursion P ys → AllByRecursion P (xs ++ ys)
+pub all_append : {A : Type 0} (P : A → Type 0) (xs ys : List A) → AllByRecursion P xs → AllByRecursion P ys → AllByRecursion P (xs ++ ys)
 all_append P [] ys h k = k
 all_append P (x ∷ xs) ys h k = (h.0, all_append P xs ys h.1 k)
 
-all_left : {A : Type 0} (P : A → Type 0) (xs ys : List A) → AllByRecursion P (xs ++ ys) → AllByRecursion P xs
+pub all_left : {A : Type 0} (P : A → Type 0) (xs ys : List A) → AllByRecursion P (xs ++ ys) → AllByRecursion P xs
 all_left P [] ys h = tt
 all_left P (x ∷ xs) ys h = (h.0, all_left P xs ys h.1)
 
-all_right : {A : Type 0} (P : A → Type 0) (xs ys : List A) → AllByRecursion P (xs ++ ys) → AllByRecursion P ys
+pub all_right : {A : Type 0} (P : A → Type 0) (xs ys : List A) → AllByRecursion P (xs ++ ys) → AllByRecursion P ys
 all_right P [] ys h = h
 all_right P (x ∷ xs) ys h = all_right P xs ys h.1
 
@@ -41,7 +41,7 @@ all_within : {K : Type 0} (w : Head → ℕ) (m : ℕ) (es : List (K × Head)) �
 all_within w m [] le = tt
 all_within w m (e ∷ es) le = (omega arith, all_within w m es (omega arith))
 
-all_both : {A : Type 0} (P Q R : A → Type 0) → ((x : A) → P x → Q x → R x) → (xs : List A) → AllByRecursion P xs → AllByRecursion Q xs → AllByRecursion R xs
+pub all_both : {A : Type 0} (P Q R : A → Type 0) → ((x : A) → P x → Q x → R x) → (xs : List A) → AllByRecursion P xs → AllByRecursion Q xs → AllByRecursion R xs
 all_both P Q R step [] h k = tt
 all_both P Q R step (x ∷ xs) h k = (step x h.0 k.0, all_both P Q R step xs h.1 k.1)
 
@@ -260,7 +260,7 @@ module _ {K V : Type 0} where
     pub versions_trimmed : kept_by (chain_in new) es ≡ trimmed_all oldest (kept_by (chain_in old) es)
     versions_trimmed = kept_trimmed oldest (chain_in old) (chain_in new) es chains
 
-    same_total : (w : List (Placed V) → ℕ) → total (λ h. w (trace (live_count new) (value_at new) h.newest)) es ≡ total (λ h. w (trace (live_count old) (value_at new) h.newest)) es
+    pub same_total : (w : List (Placed V) → ℕ) → total (λ h. w (trace (live_count new) (value_at new) h.newest)) es ≡ total (λ h. w (trace (live_count old) (value_at new) h.newest)) es
     same_total w = total_alike (λ h. w (trace (live_count old) (value_at new) h.newest)) (λ h. w (trace (live_count new) (value_at new) h.newest)) es
         (all_map _ (λ e. w (trace (live_count new) (value_at new) e.1.newest) ≡ w (trace (live_count old) (value_at new) e.1.newest)) (λ e p. ap w p.0) es fits)
 

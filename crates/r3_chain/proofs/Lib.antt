@@ -9,3 +9,6 @@ pub mod TrimLemmas
 pub mod ForestLemmas
 pub mod TwinLemmas
 pub mod AddLemmas
+pub mod LongLemmas
+pub mod CuttingLemmas
+pub mod WholeLemmas

@@ -13,7 +13,7 @@ use Rattle.r3_pool.specs.Slots.{Slots, value_at, live_count, with_spare}
 use Rattle.r3_chain.specs.Versions.{Chains, Versions, kept_count, AreFalling}
 use Rattle.r3_chain.specs.Links.{trace, visits, chain_in, IsChain}
 use Rattle.r3_chain.specs.Heads.{newest_in, has_round, is_marked, roomed, all_roomed, room_in, kept_by}
-use Rattle.r3_chain.specs.Sound.{one_if, total, room_count, IsHead, IsSound}
+use Rattle.r3_chain.specs.Sound.{one_if, total, uses, room_count, IsHead, IsSound}
 use Rattle.r3_chain.specs.declared.node.Node.{Node}
 use Rattle.r3_chain.specs.declared.head.Head.{Head}
 use Rattle.r3_chain.proofs.LinkLemmas.{nothing}
@@ -117,6 +117,20 @@ module _ {K V : Type 0} (cmp : K → K → Ordering) (o : IsTotalOrder cmp) (nod
       → IsSound cmp (all_roomed cmp round next ks es) nodes cap round last
   sound_all cap round next last [] es lt le ok = ok
   sound_all cap round next last (k ∷ ks) es lt le ok = sound_all cap round next last ks (put cmp k (roomed round next (find cmp k es)) es) lt le (sound_one cap round next last k es lt le ok)
+
+  pub uses_all : (cap round next last : ℕ) (ks : List K) (es : List (K × Head)) → round < next → next ≤ last → IsSound cmp es nodes cap round last
+      → (t : ℕ) → uses t nodes (all_roomed cmp round next ks es) ≡ uses t nodes es
+  uses_all cap round next last [] es lt le ok t = refl
+  uses_all cap round next last (k ∷ ks) es lt le ok t =
+      uses_all cap round next last ks (put cmp k (roomed round next (find cmp k es)) es) lt le (sound_one cap round next last k es lt le ok) t
+      ∙ total_same cmp o (λ h. visits t (trace (live_count nodes) (value_at nodes) h.newest)) k (roomed round next (find cmp k es)) es ok.sorted (visits_of t round next (find cmp k es))
+
+  pub rooms_all : (cap round next last : ℕ) (ks : List K) (es : List (K × Head)) → round < next → next ≤ last → IsSound cmp es nodes cap round last
+      → room_count round (all_roomed cmp round next ks es) ≡ room_count round es
+  rooms_all cap round next last [] es lt le ok = refl
+  rooms_all cap round next last (k ∷ ks) es lt le ok =
+      rooms_all cap round next last ks (put cmp k (roomed round next (find cmp k es)) es) lt le (sound_one cap round next last k es lt le ok)
+      ∙ total_same cmp o (λ h. one_if (has_round round h)) k (roomed round next (find cmp k es)) es ok.sorted (marks_of round next (find cmp k es) ok.first lt)
 
   pub kept_all : (cap round next last : ℕ) (ks : List K) (es : List (K × Head)) → round < next → next ≤ last → IsSound cmp es nodes cap round last
       → kept_by (chain_in nodes) (all_roomed cmp round next ks es) ≡ kept_by (chain_in nodes) es

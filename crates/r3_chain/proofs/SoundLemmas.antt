@@ -83,7 +83,7 @@ module _ {K V : Type 0} (cmp : K → K → Ordering) (o : IsTotalOrder cmp) (es 
       ∙ ap (put cmp key (chain_in new (Some s))) (kept_alike (chain_in old) (chain_in new) es same_chains)
       ∙ ap (λ vs. put cmp key vs (kept_by (chain_in old) es)) (top ∙ ap (λ vs. (index, x) ∷ vs) (sym was))
 
-  new_uses : (t : ℕ) → uses t new (put cmp key (written s) es) ≡ uses t old es + one_if (nat_eq s t)
+  pub new_uses : (t : ℕ) → uses t new (put cmp key (written s) es) ≡ uses t old es + one_if (nat_eq s t)
   new_uses t =
       let weight : Head → ℕ = λ g. visits t (trace (live_count new) (value_at new) g.newest) in
       let alike : total weight es ≡ uses t old es =
@@ -161,16 +161,18 @@ module _ {K V : Type 0} (cmp : K → K → Ordering) (o : IsTotalOrder cmp) (es 
       let head : (h : Head) × (find cmp key es ≡ Some h) = marked_some round (find cmp key es) on in
       (head.0, (head.1, sym (ap (is_marked round) head.1) ∙ on))
 
-  pub has_spare : has_room cmp key (room_in round es) ≡ true → 0 < nodes.spare
-  has_spare room =
+  pub some_room : has_room cmp key (room_in round es) ≡ true → 0 < room_count round es
+  some_room room =
       let head : (h : Head) × ((find cmp key es ≡ Some h) × (has_round round h ≡ true)) = has_head room in
       let weight : Head → ℕ = λ g. one_if (has_round round g) in
       let sum : room_count round (put cmp key (written 0) es) + one_if (has_round round head.0) ≡ room_count round es + one_if (has_round round (written 0)) =
       total_put cmp o (λ g. one_if (has_round round g)) key (written 0) head.0 es ok.sorted head.1.0 in
       let one : one_if (has_round round head.0) ≡ 1 = ap one_if head.1.1 in
       let none : one_if (has_round round (written 0)) ≡ 0 = ap one_if (unmarked round 0 ok.first) in
-      let fits : room_count round es ≤ nodes.spare = ok.room in
       omega arith
+
+  pub has_spare : has_room cmp key (room_in round es) ≡ true → 0 < nodes.spare
+  has_spare room = let some : 0 < room_count round es = some_room room in let fits : room_count round es ≤ nodes.spare = ok.room in omega arith
 
   pub room_after : (s : ℕ) → has_room cmp key (room_in round es) ≡ true → room_in round (put cmp key (written s) es) ≡ without cmp key (room_in round es)
   room_after s room =

@@ -3,4 +3,5 @@ pub mod Links
 pub mod Heads
 pub mod Sound
 pub mod Cuts
+pub mod Long
 pub mod VersionLaws

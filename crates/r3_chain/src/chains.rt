@@ -6,9 +6,9 @@ ghost use Rattle.std.specs.FinMap.{IsAntisymmetric};
 ghost use Rattle.r3_chain.specs.Versions.{first_past as past, kept_count, versions_of, installed, IsNext, has_room, without, key_set, version_at, present, range_at, trimmed_all};
 
 use crate::head::{Head, give_rooms, newest, push_newest, replace_newest};
-use crate::node::{Node, first_past, last_upto, present_upto, put_version, version_upto};
-use crate::trim::trim_heads;
-use r3_pool::{Pool, PoolFault};
+use crate::node::{Node, first_past, last_upto, list_version, present_upto, put_version, version_upto};
+use crate::trim::trim_chain;
+use r3_pool::{Pool, PoolFault, Slot};
 use r3_value::Memory;
 use std::alloc::{AllocError, Global};
 use std::cmp::Ordering;
@@ -21,6 +21,9 @@ pub struct Chains<K: Ord, V> {
     // a key given room stays here without a version until it is written
     heads: BTreeMap<K, Head>,
     nodes: Pool<Node<V>>,
+    // the versions that have an older one behind them, each after that one; there is room for one
+    // more of each key that has room
+    long: Vec<Slot>,
     cap: u32,
     // a key has room while its head names this round
     round: u64,
@@ -37,11 +40,12 @@ impl<K: Ord, V> Model for Chains<K, V> {
 
     ghost use Rattle.r3_chain.specs.Links.{chain_in};
     ghost use Rattle.r3_chain.specs.Heads.{kept_by, room_in};
-    ghost use Rattle.r3_chain.specs.Sound.{IsSound};
+    ghost use Rattle.r3_chain.specs.Long.{IsWhole};
+    ghost use Rattle.std.specs.Prelude.{vec_capacity};
 
     ghost view = { λ c. record { versions = kept_by (chain_in c.nodes) c.heads.entries; room = room_in c.round c.heads.entries; cap = c.cap } };
 
-    ghost invariant = { λ c. IsSound K.cmp c.heads.entries c.nodes c.cap c.round c.last };
+    ghost invariant = { λ c. IsWhole K.cmp c.heads.entries c.nodes c.cap c.round c.last c.long.items (vec_capacity c.long) };
 }
 
 impl<K: Ord + Drop, V: Drop> Chains<K, V> {
@@ -52,6 +56,7 @@ impl<K: Ord + Drop, V: Drop> Chains<K, V> {
         Chains {
             heads: BTreeMap::new(alloc),
             nodes: Pool::new(alloc, cap),
+            long: Vec::new(alloc),
             cap,
             round: 1,
             last: 1,
@@ -80,6 +85,9 @@ impl<K: Ord + Drop, V: Drop> Chains<K, V> {
             Ok(()) => {}
             Err(fault) => return Err(fault),
         }
+        if self.long.reserve(count).is_err() {
+            return Err(PoolFault::Memory);
+        }
         // So many calls never come.
         if self.last == u64::MAX {
             return Err(PoolFault::Memory);
@@ -103,6 +111,7 @@ impl<K: Ord + Drop, V: Drop> Chains<K, V> {
     {
         let slot = self.nodes.next();
         let older = replace_newest(&mut self.heads, key, slot);
+        list_version(&mut self.long, slot, older);
         self.nodes.put(Node {
             index,
             value,
@@ -125,6 +134,9 @@ impl<K: Ord + Drop, V: Drop> Chains<K, V> {
             Ok(()) => {}
             Err(fault) => return Err(fault),
         }
+        if self.long.reserve(1).is_err() {
+            return Err(PoolFault::Memory);
+        }
         // So many calls never come.
         if self.last == u64::MAX {
             return Err(PoolFault::Memory);
@@ -133,6 +145,7 @@ impl<K: Ord + Drop, V: Drop> Chains<K, V> {
         let Ok(older) = push_newest(&mut self.heads, key, slot) else {
             return Err(PoolFault::Memory);
         };
+        list_version(&mut self.long, slot, older);
         let before = put_version(&mut self.nodes, index, value, older);
         let next = self.last + 1;
         self.last = next;
@@ -191,13 +204,24 @@ impl<K: Ord + Drop, V: Drop> Chains<K, V> {
     }
 
     /// Discards the versions that no index from `oldest` on reads: of each key those past `oldest`
-    /// stay, and the last one up to it. Their slots are used again. It goes through all keys.
+    /// stay, and the last one up to it. Their slots are used again. It looks at no version that has
+    /// none behind it.
     pub fn trim(&mut self, oldest: u32)
         ensures versions { self.new.versions ≡ trimmed_all oldest self.old.versions }
         ensures room { self.new.room ≡ self.old.room }
         ensures cap { self.new.cap ≡ self.old.cap }
     {
-        trim_heads(&self.heads, &mut self.nodes, oldest);
+        let mut kept = 0;
+        'long: for at in 0..self.long.len() {
+            let slot = self.long[at];
+            if self.nodes.get(slot).index <= oldest {
+                trim_chain(&mut self.nodes, Some(slot), oldest);
+            } else {
+                self.long[kept] = slot;
+                kept += 1;
+            }
+        }
+        self.long.truncate(kept);
     }
 }
 

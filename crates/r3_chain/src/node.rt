@@ -1,11 +1,12 @@
 //! The versions in the slab, and the walk along one key's chain.
 
-ghost use Rattle.std.specs.Prelude.{◌≡◌, ◌<◌, ◌-◌, ℕ, Some};
+ghost use Rattle.std.specs.Prelude.{◌≡◌, ◌<◌, ◌≤◌, ◌-◌, ℕ, Some, vec_len, vec_capacity};
 ghost use Rattle.std.specs.Option.{option_map, option_map_or};
 ghost use Rattle.std.specs.List.{AllByRecursion};
 ghost use Rattle.r3_pool.specs.Slots.{value_at, next_slot, Fills};
 ghost use Rattle.r3_chain.specs.Versions.{last_upto as upto, first_past as past, AreFalling, present};
 ghost use Rattle.r3_chain.specs.Links.{IsChain, chain_in};
+ghost use Rattle.r3_chain.specs.Long.{listed};
 
 use r3_pool::{Pool, Slot};
 
@@ -82,6 +83,21 @@ pub fn put_version<V: Drop>(
             });
             before
         }
+    }
+}
+
+/// Adds the version in this slot to the list, where there is an older one behind it.
+pub fn list_version(long: &mut Vec<Slot>, slot: Slot, older: Option<Slot>)
+    requires { vec_len long.old < vec_capacity long.old }
+    ensures items { long.new.items ≡ listed slot older long.old.items }
+    ensures capacity { vec_capacity long.old ≤ vec_capacity long.new }
+{
+    if older.is_none() {
+        return;
+    }
+    match long.push(slot) {
+        Ok(()) => {}
+        Err(_) => unreachable!(),
     }
 }
 

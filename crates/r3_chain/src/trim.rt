@@ -3,12 +3,10 @@
 ghost use Rattle.std.specs.Prelude.{◌≡◌, IsSome};
 ghost use Rattle.r3_pool.specs.Slots.{value_at, live_count};
 ghost use Rattle.r3_chain.specs.Links.{IsChain, trace};
-ghost use Rattle.r3_chain.specs.Cuts.{IsLine, Frees, EndsAt, Trims, IsForest, TrimsAll, cut_slot};
+ghost use Rattle.r3_chain.specs.Cuts.{IsLine, Frees, EndsAt, Trims, cut_slot};
 
-use crate::head::Head;
 use crate::node::Node;
 use r3_pool::{Pool, Slot};
-use std::collections::BTreeMap;
 
 // The slot of the last version up to the index, where it has older ones behind it.
 fn slot_to_cut<V: Drop>(nodes: &Pool<Node<V>>, newest: Option<Slot>, oldest: u32) -> Option<Slot>
@@ -75,19 +73,5 @@ pub fn trim_chain<V: Drop>(nodes: &mut Pool<Node<V>>, newest: Option<Slot>, olde
     if let Some(slot) = slot_to_cut(nodes, newest, oldest) {
         let older = end_at(nodes, slot);
         free_chain(nodes, older);
-    }
-}
-
-/// Cuts the chains of all keys.
-pub fn trim_heads<K: Ord, V: Drop>(
-    heads: &BTreeMap<K, Head>,
-    nodes: &mut Pool<Node<V>>,
-    oldest: u32,
-)
-    requires { IsForest (live_count nodes.old) nodes.old heads.now.entries }
-    ensures { TrimsAll (live_count nodes.old) oldest heads.now.entries nodes.old nodes.new }
-{
-    'heads: for (_, head) in heads {
-        trim_chain(nodes, head.newest, oldest);
     }
 }

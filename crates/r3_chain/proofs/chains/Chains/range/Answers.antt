@@ -21,7 +21,7 @@ present_upto-requires g c =
     (c.in-Some.key, c.in-Some.head) c.in-Some.is c.next.ensures.steps in
     let inside : AllByRecursion (λ e. IsHead c.self.inside.nodes c.self.inside.last e.1) c.range-key-items.result =
     subst (AllByRecursion (λ e. IsHead c.self.inside.nodes c.self.inside.last e.1)) (sym (c.range-key-items.ensures.between tt))
-    (all_filter (λ e. IsHead c.self.inside.nodes c.self.inside.last e.1) _ c.self.inside.heads.entries c.self.invariant.heads) in
+    (all_filter (λ e. IsHead c.self.inside.nodes c.self.inside.last e.1) _ c.self.inside.heads.entries c.self.invariant.sound.heads) in
     (all_get (λ e. IsHead c.self.inside.nodes c.self.inside.last e.1) c.range-key-items.result _ (c.in-Some.key.now, c.in-Some.head.now) inside turn.1).chain
 
 pub keys-preserved-in-Continue-1 : goal.keys-preserved-in-Continue-1

@@ -6,10 +6,10 @@ use Rattle.r3_chain.proofs.SoundLemmas.{chain_is, head_chain}
 use Rattle.r3_chain.proofs.chains.Chains.version.Goals as goal
 
 pub version_upto-requires : goal.version_upto-requires
-version_upto-requires g c = rw c.newest.ensures (head_chain c.self.inside.nodes g.K.Ord.cmp c.self.inside.last c.args.key.now c.self.inside.heads.entries c.self.invariant.heads).0
+version_upto-requires g c = rw c.newest.ensures (head_chain c.self.inside.nodes g.K.Ord.cmp c.self.inside.last c.args.key.now c.self.inside.heads.entries c.self.invariant.sound.heads).0
 
 pub returns : goal.returns
 returns g c =
-    let chain = chain_is g.K.Ord.cmp g.met.K.Ord.total c.self.inside.heads.entries c.self.inside.nodes c.self.inside.cap c.self.inside.round c.self.inside.last c.self.invariant c.args.key.now in
+    let chain = chain_is g.K.Ord.cmp g.met.K.Ord.total c.self.inside.heads.entries c.self.inside.nodes c.self.inside.cap c.self.inside.round c.self.inside.last c.self.invariant.sound c.args.key.now in
     let at : versions_of g.K.Ord.cmp c.args.key.now c.args.self.now.versions ≡ chain_in c.self.inside.nodes c.newest.result = rw (← c.self.view_is) (chain ∙ ap (chain_in c.self.inside.nodes) (sym c.newest.ensures)) in
     c.version_upto.ensures ∙ sym (ap (λ vs. option_map_or (λ v. v.0) (upto c.args.index vs) 0) at)
