@@ -111,7 +111,7 @@ impl<K: Ord + Drop, V: Drop> Chains<K, V> {
     {
         let slot = self.nodes.next();
         let older = replace_newest(&mut self.heads, key, slot);
-        list_version(&mut self.long, slot, older);
+        list_version(&mut self.long, slot, &older);
         self.nodes.put(Node {
             index,
             value,
@@ -145,7 +145,7 @@ impl<K: Ord + Drop, V: Drop> Chains<K, V> {
         let Ok(older) = push_newest(&mut self.heads, key, slot) else {
             return Err(PoolFault::Memory);
         };
-        list_version(&mut self.long, slot, older);
+        list_version(&mut self.long, slot, &older);
         let before = put_version(&mut self.nodes, index, value, older);
         let next = self.last + 1;
         self.last = next;

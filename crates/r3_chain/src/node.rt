@@ -87,9 +87,9 @@ pub fn put_version<V: Drop>(
 }
 
 /// Adds the version in this slot to the list, where there is an older one behind it.
-pub fn list_version(long: &mut Vec<Slot>, slot: Slot, older: Option<Slot>)
+pub fn list_version(long: &mut Vec<Slot>, slot: Slot, older: &Option<Slot>)
     requires { vec_len long.old < vec_capacity long.old }
-    ensures items { long.new.items ≡ listed slot older long.old.items }
+    ensures items { long.new.items ≡ listed slot older.now long.old.items }
     ensures capacity { vec_capacity long.old ≤ vec_capacity long.new }
 {
     if older.is_none() {

@@ -1,7 +1,7 @@
-use Rattle.std.proofs.Common.{◌≡◌, ◌<◌, ◌≤◌, ◌+◌, length, max, arith, sym, ap, ◌∙◌, subst}
+use Rattle.std.proofs.Common.{◌≡◌, ◌<◌, ◌≤◌, ◌+◌, length, max, arith, refl, sym, ap, ◌∙◌, subst}
 use Rattle.std.specs.List.{AllByRecursion}
 use Rattle.std.specs.Option.{option_map_or}
-use Rattle.std.specs.Prelude.{vec_capacity}
+use Rattle.std.specs.Prelude.{vec_len, vec_capacity}
 use Rattle.std.specs.FinMap.{find}
 use Rattle.std.specs.FinMap.Entries.{put}
 use Rattle.r3_pool.specs.Slots.{Fills, live_count, next_slot, with_spare}
@@ -30,9 +30,15 @@ invariant_of-self-in_default g c =
     let roomy : c.reserve.new.self ≡ with_spare c.self.inside.nodes (max c.self.inside.nodes.spare 1) = c.in-Ok.ensures.ok in
     subst (λ hs. IsWhole g.K.Ord.cmp hs c.reserve.new.self c.self.inside.cap c.self.inside.round c.self.inside.last c.reserve-2.new.self.items (vec_capacity c.reserve-2.new.self)) (sym c.in_default.ensures.err) (whole_spare g.K.Ord.cmp g.met.K.Ord.total c.self.inside.heads.entries c.self.inside.nodes c.reserve.new.self c.self.inside.cap c.self.inside.round c.self.inside.last 1 c.self.inside.long.items c.reserve-2.new.self.items (vec_capacity c.self.inside.long) (vec_capacity c.reserve-2.new.self) c.self.invariant roomy c.reserve-2.ensures.items c.reserve-2.ensures.capacity)
 
+pub returns-in_default-clause-err : goal.returns-in_default-clause-err
+returns-in_default-clause-err g c =
+    let roomy : c.reserve.new.self ≡ with_spare c.self.inside.nodes (max c.self.inside.nodes.spare 1) = c.in-Ok.ensures.ok in
+    let same : kept_by (chain_in c.reserve.new.self) c.self.inside.heads.entries ≡ kept_by (chain_in c.self.inside.nodes) c.self.inside.heads.entries = rw roomy refl in
+    rw (c.in_default.ensures.err, ← c.self.view_is) (view_same _ _ _ _ c.self.inside.cap same refl)
+
 pub list_version-requires : goal.list_version-requires
 list_version-requires g c =
-    let free : length c.reserve-2.new.self.items + 1 ≤ vec_capacity c.reserve-2.new.self = on_ok c.reserve-2.result _ (sym c.is_err.ensures.value ∙ c.if-is_err.false) c.reserve-2.ensures.ok in
+    let free : vec_len c.reserve-2.new.self + 1 ≤ vec_capacity c.reserve-2.new.self = on_ok c.reserve-2.result _ (sym c.is_err.ensures.value ∙ c.if-is_err.false) c.reserve-2.ensures.ok in
     omega arith
 
 pub put_version-before-requires-clause-chain : goal.put_version-before-requires-clause-chain
@@ -63,7 +69,7 @@ invariant_of-self-2 g c =
     c.list_version.ensures.items ∙ ap (λ s. listed s c.in-Ok-push_newest.older c.reserve-2.new.self.items) c.next-slot.ensures
     ∙ ap (λ r. listed (next_slot c.reserve.new.self) r c.reserve-2.new.self.items) c.in-Ok-push_newest.ensures.older
     ∙ ap (listed (next_slot c.reserve.new.self) (newest_in (find g.K.Ord.cmp c.args.key c.self.inside.heads.entries))) c.reserve-2.ensures.items in
-    let free : length c.reserve-2.new.self.items + 1 ≤ vec_capacity c.reserve-2.new.self = on_ok c.reserve-2.result _ (sym c.is_err.ensures.value ∙ c.if-is_err.false) c.reserve-2.ensures.ok in
+    let free : vec_len c.reserve-2.new.self + 1 ≤ vec_capacity c.reserve-2.new.self = on_ok c.reserve-2.result _ (sym c.is_err.ensures.value ∙ c.if-is_err.false) c.reserve-2.ensures.ok in
     let same : length c.reserve-2.new.self.items ≡ length c.self.inside.long.items = ap length c.reserve-2.ensures.items in
     let longer : length c.list_version.new.long.items ≤ length c.self.inside.long.items + 1 =
     subst (λ ss. length ss ≤ length c.self.inside.long.items + 1) (sym items) (length_listed (next_slot c.reserve.new.self) (newest_in (find g.K.Ord.cmp c.args.key c.self.inside.heads.entries)) c.self.inside.long.items) in

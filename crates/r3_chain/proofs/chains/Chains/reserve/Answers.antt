@@ -1,5 +1,5 @@
 use Rattle.std.proofs.Common.{◌≡◌, ◌<◌, ◌+◌, ◌≤◌, [], length, max, arith, refl, sym, ap, ◌∙◌, fold}
-use Rattle.std.specs.Prelude.{vec_capacity}
+use Rattle.std.specs.Prelude.{vec_len, vec_capacity}
 use Rattle.std.specs.BTreeSet.{insert_key}
 use Rattle.r3_pool.specs.Slots.{live_count, with_spare}
 use Rattle.r3_chain.specs.Versions.{kept_count, key_set}
@@ -38,10 +38,34 @@ invariant_of-self-then-is_err g c =
     let roomy : c.reserve.new.self ≡ with_spare c.self.inside.nodes (max c.self.inside.nodes.spare c.len-count.result) = c.in-Ok-reserve.ensures.ok in
     whole_spare g.K.Ord.cmp g.met.K.Ord.total c.self.inside.heads.entries c.self.inside.nodes c.reserve.new.self c.self.inside.cap c.self.inside.round c.self.inside.last c.len-count.result c.self.inside.long.items c.reserve-2.new.self.items (vec_capacity c.self.inside.long) (vec_capacity c.reserve-2.new.self) c.self.invariant roomy c.reserve-2.ensures.items c.reserve-2.ensures.capacity
 
+pub returns-then-is_err-clause-same : goal.returns-then-is_err-clause-same
+returns-then-is_err-clause-same g c =
+    let roomy : c.reserve.new.self ≡ with_spare c.self.inside.nodes (max c.self.inside.nodes.spare c.len-count.result) = c.in-Ok-reserve.ensures.ok in
+    let same : kept_by (chain_in c.reserve.new.self) c.self.inside.heads.entries ≡ kept_by (chain_in c.self.inside.nodes) c.self.inside.heads.entries = rw roomy refl in
+    rw (← c.self.view_is) (same, refl)
+
+pub returns-then-is_err-clause-err : goal.returns-then-is_err-clause-err
+returns-then-is_err-clause-err g c =
+    let roomy : c.reserve.new.self ≡ with_spare c.self.inside.nodes (max c.self.inside.nodes.spare c.len-count.result) = c.in-Ok-reserve.ensures.ok in
+    let same : kept_by (chain_in c.reserve.new.self) c.self.inside.heads.entries ≡ kept_by (chain_in c.self.inside.nodes) c.self.inside.heads.entries = rw roomy refl in
+    rw (← c.self.view_is) (view_same _ _ _ _ c.self.inside.cap same refl)
+
 pub invariant_of-self-then-self : goal.invariant_of-self-then-self
 invariant_of-self-then-self g c =
     let roomy : c.reserve.new.self ≡ with_spare c.self.inside.nodes (max c.self.inside.nodes.spare c.len-count.result) = c.in-Ok-reserve.ensures.ok in
     whole_spare g.K.Ord.cmp g.met.K.Ord.total c.self.inside.heads.entries c.self.inside.nodes c.reserve.new.self c.self.inside.cap c.self.inside.round c.self.inside.last c.len-count.result c.self.inside.long.items c.reserve-2.new.self.items (vec_capacity c.self.inside.long) (vec_capacity c.reserve-2.new.self) c.self.invariant roomy c.reserve-2.ensures.items c.reserve-2.ensures.capacity
+
+pub returns-then-self-clause-same : goal.returns-then-self-clause-same
+returns-then-self-clause-same g c =
+    let roomy : c.reserve.new.self ≡ with_spare c.self.inside.nodes (max c.self.inside.nodes.spare c.len-count.result) = c.in-Ok-reserve.ensures.ok in
+    let same : kept_by (chain_in c.reserve.new.self) c.self.inside.heads.entries ≡ kept_by (chain_in c.self.inside.nodes) c.self.inside.heads.entries = rw roomy refl in
+    rw (← c.self.view_is) (same, refl)
+
+pub returns-then-self-clause-err : goal.returns-then-self-clause-err
+returns-then-self-clause-err g c =
+    let roomy : c.reserve.new.self ≡ with_spare c.self.inside.nodes (max c.self.inside.nodes.spare c.len-count.result) = c.in-Ok-reserve.ensures.ok in
+    let same : kept_by (chain_in c.reserve.new.self) c.self.inside.heads.entries ≡ kept_by (chain_in c.self.inside.nodes) c.self.inside.heads.entries = rw roomy refl in
+    rw (← c.self.view_is) (view_same _ _ _ _ c.self.inside.cap same refl)
 
 pub invariant_of-self-then-is_err-2 : goal.invariant_of-self-then-is_err-2
 invariant_of-self-then-is_err-2 g c =
@@ -93,7 +117,7 @@ invariant_of-self-2 g c =
     count_all g.K.Ord.cmp g.met.K.Ord.total c.reserve.new.self c.self.inside.cap c.self.inside.round (c.self.inside.last + 1) (c.self.inside.last + 1) c.in-Ok.keys.keys c.self.inside.heads.entries lt le later in
     let zero : room_count (c.self.inside.last + 1) c.self.inside.heads.entries ≡ 0 = none.1 in
     let whole = whole_rooms g.K.Ord.cmp g.met.K.Ord.total c.self.inside.heads.entries c.reserve.new.self c.self.inside.cap c.self.inside.round c.self.inside.last c.in-Ok.keys.keys c.reserve-2.new.self.items (vec_capacity c.reserve-2.new.self) (whole_spare g.K.Ord.cmp g.met.K.Ord.total c.self.inside.heads.entries c.self.inside.nodes c.reserve.new.self c.self.inside.cap c.self.inside.round c.self.inside.last c.len-count.result c.self.inside.long.items c.reserve-2.new.self.items (vec_capacity c.self.inside.long) (vec_capacity c.reserve-2.new.self) c.self.invariant roomy c.reserve-2.ensures.items c.reserve-2.ensures.capacity) in
-    let free : length c.reserve-2.new.self.items + c.len-count.result ≤ vec_capacity c.reserve-2.new.self = on_ok c.reserve-2.result _ (sym c.is_err.ensures.value ∙ c.if-is_err.false) c.reserve-2.ensures.ok in
+    let free : vec_len c.reserve-2.new.self + c.len-count.result ≤ vec_capacity c.reserve-2.new.self = on_ok c.reserve-2.result _ (sym c.is_err.ensures.value ∙ c.if-is_err.false) c.reserve-2.ensures.ok in
     rw made (record {
       sound = (next_round g.K.Ord.cmp g.met.K.Ord.total c.reserve.new.self c.self.inside.cap c.self.inside.round (c.self.inside.last + 1) (all_roomed g.K.Ord.cmp c.self.inside.round (c.self.inside.last + 1) c.in-Ok.keys.keys c.self.inside.heads.entries) (omega arith) (omega arith)
     (sound_all g.K.Ord.cmp g.met.K.Ord.total c.reserve.new.self c.self.inside.cap c.self.inside.round (c.self.inside.last + 1) (c.self.inside.last + 1) c.in-Ok.keys.keys c.self.inside.heads.entries lt le later));
