@@ -1,19 +1,22 @@
 -- The chains of all keys, while they are cut behind the versions of the list one by one.
-use Rattle.std.proofs.Common.{◌≡◌, ◌≢◌, ℕ, ◌+◌, ◌<◌, ◌≤◌, zero, suc, true, false, cond, List, [], ◌∷◌, ◌++◌, length, Option, Some, None, IsSome, is_some, refl, sym, ap, ◌∙◌, subst, arith, inl, inr, append_assoc}
+use Rattle.std.proofs.Common.{◌≡◌, ◌≢◌, ℕ, ◌+◌, ◌<◌, ◌≤◌, zero, suc, true, false, cond, List, [], ◌∷◌, ◌++◌, length, take, drop, Option, Some, None, IsSome, is_some, refl, sym, ap, ◌∙◌, subst, arith, inl, inr, append_assoc}
+use Rattle.std.proofs.Math.ListN.{get_or, set, drop_of_length-le}
+use Rattle.std.proofs.lemmas.List.{drop_more, take_more_set, drop-set-lt}
 use Rattle.std.proofs.lemmas.Bool.Decides.{eqb_tells}
 use Rattle.std.specs.Prelude.{nat_eq, ◌⊎◌}
 use Rattle.std.specs.List.{AllByRecursion}
+use Rattle.std.specs.declared.cmp.Ordering.{Ordering}
 use Rattle.r3_pool.specs.Slots.{Slots, value_at, live_count}
 use Rattle.r3_chain.specs.Versions.{AreFalling}
 use Rattle.r3_chain.specs.Links.{Placed, trace, Ends, versions_in, visits}
-use Rattle.r3_chain.specs.Sound.{total}
-use Rattle.r3_chain.specs.Cuts.{cut_at, IsLine, Trims, IsForest, TrimsAll}
-use Rattle.r3_chain.specs.Long.{times, older_in, older_at, InOrder, uses_by, IsLong}
+use Rattle.r3_chain.specs.Sound.{total, IsHead}
+use Rattle.r3_chain.specs.Cuts.{cut_at, IsLine, Trims}
+use Rattle.r3_chain.specs.Long.{times, older_in, older_at, InOrder, uses_by, IsLong, IsWhole}
 use Rattle.r3_chain.specs.declared.node.Node.{Node}
 use Rattle.r3_chain.specs.declared.head.Head.{Head}
 use Rattle.r3_chain.proofs.LinkLemmas.{trace_step, trace_stays, trace_fits, first_live, nothing, seen_same, seen_other, one}
 use Rattle.r3_chain.proofs.HeadLemmas.{all_map, total_alike}
-use Rattle.r3_chain.proofs.ForestLemmas.{total_append, all_append, all_left, all_right, all_both, trims_fuel}
+use Rattle.r3_chain.proofs.ForestLemmas.{IsForest, TrimsAll, forest_of, total_append, all_append, all_left, all_right, all_both, trims_fuel}
 use Rattle.r3_chain.proofs.LongLemmas.{times_append, positive, found, visits_append, length_append, versions_append, falling_first, next_falls, cut_behind, cut_first, through, spliced, last_ends, uncuttable, order_at, order_less}
 
 module _ {V : Type 0} (n : ℕ) (cur new : Slots (Node V)) where
@@ -419,3 +422,34 @@ module _ {K V : Type 0} (n oldest : ℕ) (es : List (K × Head)) (old cur : Slot
       subst (λ xs. Cutting n oldest xs old new kept rest) (sym place.1.1.1.0)
       (cutting_cuts n oldest old cur place.0 place.1.0 place.1.1.0 kept rest s (subst (λ xs. Cutting n oldest xs old cur kept (s ∷ rest)) place.1.1.1.0 g) place.1.1.1.1
       new node is le (trims_fuel n (live_count cur) oldest (Some s) cur new line.0 line.1.0 t))
+
+-- the list as the loop holds it: kept entries at its start, and those from a place on that are left
+module _ {K V : Type 0} where
+  pub place_starts : (cmp : K → K → Ordering) (es : List (K × Head)) (nodes : Slots (Node V)) (cap round last : ℕ) (ss : List ℕ) (capacity oldest : ℕ) → IsWhole cmp es nodes cap round last ss capacity
+      → Cutting (live_count nodes) oldest es nodes nodes [] ss
+  place_starts cmp es nodes cap round last ss capacity oldest w = cutting_starts (live_count nodes) oldest es nodes ss (forest_of cmp es nodes cap round last w.sound)
+      (all_map (λ e. IsHead nodes last e.1) (λ e. AreFalling (versions_in (trace (live_count nodes) (value_at nodes) e.1.newest))) (λ e p. p.falling) es w.sound.heads) w.long
+
+  module _ (n oldest : ℕ) (es : List (K × Head)) (old cur : Slots (Node V)) (kept at : ℕ) (ss : List ℕ) (g : Cutting n oldest es old cur (take kept ss) (drop at ss)) where
+    pub place_ends : length ss ≤ at → TrimsAll n oldest es old cur × IsLong n cur es (take kept ss)
+    place_ends le = cutting_ends n oldest es old cur (take kept ss) (subst (Cutting n oldest es old cur (take kept ss)) (drop_of_length-le ss le) g)
+
+    module _ (s : ℕ) (is : s ≡ get_or ss at s) (lt : at < length ss) where
+      place_at : Cutting n oldest es old cur (take kept ss) (s ∷ drop (at + 1) ss)
+      place_at = subst (Cutting n oldest es old cur (take kept ss)) (drop_more ss at s lt ∙ ap (λ x. x ∷ drop (at + 1) ss) (sym is)) g
+
+      pub place_live : IsSome (value_at cur s)
+      place_live = first_live n (value_at cur) s (line_of n oldest es old cur (take kept ss) (drop (at + 1) ss) s place_at).0
+
+      pub place_line : IsLine (live_count cur) (value_at cur) (Some s)
+      place_line = (line_of n oldest es old cur (take kept ss) (drop (at + 1) ss) s place_at).1.1
+
+      pub place_cut : (new : Slots (Node V)) (node : Node V) → value_at cur s ≡ Some node → node.index ≤ oldest → Trims (live_count cur) oldest (Some s) cur new
+          → Cutting n oldest es old new (take kept ss) (drop (at + 1) ss)
+      place_cut = cutting_goes_on n oldest es old cur (take kept ss) (drop (at + 1) ss) s place_at
+
+      pub place_kept : (node : Node V) → value_at cur s ≡ Some node → oldest < node.index → kept ≤ at → Cutting n oldest es old cur (take (kept + 1) (set ss kept s)) (drop (at + 1) (set ss kept s))
+      place_kept node live late le =
+          let next : Cutting n oldest es old cur (take kept ss ++ s ∷ []) (drop (at + 1) ss) = cutting_keeps n oldest es old cur (take kept ss) (drop (at + 1) ss) s node place_at live late in
+          subst (λ xs. Cutting n oldest es old cur xs (drop (at + 1) (set ss kept s))) (sym (take_more_set ss kept s (omega arith)))
+          (subst (Cutting n oldest es old cur (take kept ss ++ s ∷ [])) (sym (drop-set-lt (at + 1) ss kept s (omega arith))) next)

@@ -1,4 +1,4 @@
--- The chains of all keys, while they are cut one by one.
+-- The chains of all keys: that they lie apart, and that each is cut.
 use Rattle.std.proofs.Common.{◌≡◌, ℕ, ◌+◌, ◌<◌, ◌≤◌, zero, suc, Bool, true, false, cond, List, [], ◌∷◌, ◌++◌, length, Option, Some, None, is_some, refl, sym, ap, ◌∙◌, subst, arith, append_assoc}
 use Rattle.std.specs.Prelude.{nat_le}
 use Rattle.std.specs.List.{AllByRecursion}
@@ -9,12 +9,25 @@ use Rattle.r3_chain.specs.VersionLaws.{falling_trimmed}
 use Rattle.r3_chain.specs.Links.{Cells, Placed, onto, trace, Ends, versions_in, visits, chain_in}
 use Rattle.r3_chain.specs.Heads.{with_versions, kept_by}
 use Rattle.r3_chain.specs.Sound.{one_if, total, uses, room_count, IsHead, IsSound}
-use Rattle.r3_chain.specs.Cuts.{cut_at, IsLine, Trims, IsForest, TrimsAll}
+use Rattle.r3_chain.specs.Cuts.{cut_at, Trims}
 use Rattle.r3_chain.specs.declared.node.Node.{Node}
 use Rattle.r3_chain.specs.declared.head.Head.{Head}
-use Rattle.r3_chain.proofs.LinkLemmas.{trace_stays, trace_fits, visited_live, length-versions_in}
+use Rattle.r3_chain.proofs.LinkLemmas.{trace_fits, visited_live, length-versions_in}
 use Rattle.r3_chain.proofs.HeadLemmas.{all_map, total_alike}
-use Rattle.r3_chain.proofs.TrimLemmas.{cut_fewer, versions-cut_at, cut_shorter}
+use Rattle.r3_chain.proofs.TrimLemmas.{versions-cut_at, cut_shorter}
+
+-- the chains of all keys are whole, come to each slot once, and have each slot in use
+pub record IsForest {K V : Type 0} (n : ℕ) (nodes : Slots (Node V)) (es : List (K × Head)) : Type 0 where
+  pub ends : AllByRecursion (λ e. Ends n (value_at nodes) e.1.newest) es
+  pub apart : (t : ℕ) → total (λ h. visits t (trace n (value_at nodes) h.newest)) es ≤ 1
+  pub count : total (λ h. length (trace n (value_at nodes) h.newest)) es ≡ live_count nodes
+
+-- and each is cut
+pub record TrimsAll {K V : Type 0} (n oldest : ℕ) (es : List (K × Head)) (old new : Slots (Node V)) : Type 0 where
+  pub forest : IsForest n new es
+  pub cut : AllByRecursion (λ e. trace n (value_at new) e.1.newest ≡ cut_at oldest (trace n (value_at old) e.1.newest)) es
+  pub cap : new.cap ≡ old.cap
+  pub spare : old.spare ≤ new.spare
 
 one_most : (b : Bool) → one_if b ≤ 1
 one_most true = omega arith
@@ -70,131 +83,6 @@ module _ {V : Type 0} where
         cap = t.cap;
         spare = t.spare;
       }
-
-module _ {K V : Type 0} (n oldest : ℕ) (old : Slots (Node V)) where
-  -- so far: the chains of the first keys are cut
-  pub record Trimming (es done rest : List (K × Head)) (cur : Slots (Node V)) : Type 0 where
-    pub split : es ≡ done ++ rest
-    pub forest : IsForest n cur es
-    pub cut : AllByRecursion (λ e. trace n (value_at cur) e.1.newest ≡ cut_at oldest (trace n (value_at old) e.1.newest)) done
-    pub left : AllByRecursion (λ e. trace n (value_at cur) e.1.newest ≡ trace n (value_at old) e.1.newest) rest
-    pub cap : cur.cap ≡ old.cap
-    pub spare : old.spare ≤ cur.spare
-
-  pub trimming_starts : (es : List (K × Head)) → IsForest n old es → Trimming es [] es old
-  trimming_starts es f = record { split = refl; forest = f; cut = tt; left = alike es; cap = refl; spare = omega arith }
-    where
-      alike : (xs : List (K × Head)) → AllByRecursion (λ e. trace n (value_at old) e.1.newest ≡ trace n (value_at old) e.1.newest) xs
-      alike [] = tt
-      alike (x ∷ xs) = (refl, alike xs)
-
-  pub trimming_ends : (es done : List (K × Head)) (new : Slots (Node V)) → Trimming es done [] new → TrimsAll n oldest es old new
-  trimming_ends es done new t = record {
-    forest = t.forest;
-    cut = subst (AllByRecursion (λ e. trace n (value_at new) e.1.newest ≡ cut_at oldest (trace n (value_at old) e.1.newest))) (sym t.split) (all_append _ done [] t.cut tt);
-    cap = t.cap;
-    spare = t.spare;
-  }
-
-  module _ (cur new : Slots (Node V)) (e : K × Head) (t : Trims n oldest e.1.newest cur new) where
-    -- the chains of other keys
-    stay : (xs : List (K × Head)) → AllByRecursion (λ x. Ends n (value_at cur) x.1.newest) xs
-        → ((u : ℕ) → total (λ h. visits u (trace n (value_at cur) h.newest)) xs + visits u (trace n (value_at cur) e.1.newest) ≤ 1)
-        → AllByRecursion (λ x. (trace n (value_at new) x.1.newest ≡ trace n (value_at cur) x.1.newest) × Ends n (value_at new) x.1.newest) xs
-    stay [] h few = tt
-    stay (x ∷ xs) h few = (
-      trace_stays n (value_at cur) (value_at new) x.1.newest (λ u on. t.others u (omega (arith, few u, on))) h.0,
-      stay xs h.1 (λ u. omega (arith, few u)),
-    )
-
-    same : (w : List (Placed V) → ℕ) (xs : List (K × Head)) → AllByRecursion (λ x. (trace n (value_at new) x.1.newest ≡ trace n (value_at cur) x.1.newest) × Ends n (value_at new) x.1.newest) xs
-        → total (λ h. w (trace n (value_at new) h.newest)) xs ≡ total (λ h. w (trace n (value_at cur) h.newest)) xs
-    same w xs h = total_alike (λ h. w (trace n (value_at cur) h.newest)) (λ h. w (trace n (value_at new) h.newest)) xs
-        (all_map (λ x. (trace n (value_at new) x.1.newest ≡ trace n (value_at cur) x.1.newest) × Ends n (value_at new) x.1.newest) (λ x. w (trace n (value_at new) x.1.newest) ≡ w (trace n (value_at cur) x.1.newest)) (λ x p. ap w p.0) xs h)
-
-    forest_goes_on : (done rest : List (K × Head)) → IsForest n cur (done ++ e ∷ rest)
-        → AllByRecursion (λ x. (trace n (value_at new) x.1.newest ≡ trace n (value_at cur) x.1.newest) × Ends n (value_at new) x.1.newest) done
-        → AllByRecursion (λ x. (trace n (value_at new) x.1.newest ≡ trace n (value_at cur) x.1.newest) × Ends n (value_at new) x.1.newest) rest
-        → IsForest n new (done ++ e ∷ rest)
-    forest_goes_on done rest f d r =
-        let P : K × Head → Type 0 = λ x. Ends n (value_at new) x.1.newest in
-        let long : (s : Slots (Node V)) → total (λ h. length (trace n (value_at s) h.newest)) (done ++ e ∷ rest)
-        ≡ total (λ h. length (trace n (value_at s) h.newest)) done + (length (trace n (value_at s) e.1.newest) + total (λ h. length (trace n (value_at s) h.newest)) rest) =
-        λ s. total_append (λ h. length (trace n (value_at s) h.newest)) done (e ∷ rest) in
-        let new_long : total (λ h. length (trace n (value_at new) h.newest)) (done ++ e ∷ rest)
-        ≡ total (λ h. length (trace n (value_at new) h.newest)) done + (length (trace n (value_at new) e.1.newest) + total (λ h. length (trace n (value_at new) h.newest)) rest) = long new in
-        let cur_long : total (λ h. length (trace n (value_at cur) h.newest)) (done ++ e ∷ rest)
-        ≡ total (λ h. length (trace n (value_at cur) h.newest)) done + (length (trace n (value_at cur) e.1.newest) + total (λ h. length (trace n (value_at cur) h.newest)) rest) = long cur in
-        let done_long : total (λ h. length (trace n (value_at new) h.newest)) done ≡ total (λ h. length (trace n (value_at cur) h.newest)) done = same length done d in
-        let rest_long : total (λ h. length (trace n (value_at new) h.newest)) rest ≡ total (λ h. length (trace n (value_at cur) h.newest)) rest = same length rest r in
-        let here : length (trace n (value_at new) e.1.newest) ≡ length (cut_at oldest (trace n (value_at cur) e.1.newest)) = ap length t.cut in
-        let live : live_count new + length (trace n (value_at cur) e.1.newest) ≡ live_count cur + length (cut_at oldest (trace n (value_at cur) e.1.newest)) = t.live in
-        let all : total (λ h. length (trace n (value_at cur) h.newest)) (done ++ e ∷ rest) ≡ live_count cur = f.count in
-        record {
-          ends = all_append P done (e ∷ rest) (all_map _ P (λ x p. p.1) done d) (t.ends, all_map _ P (λ x p. p.1) rest r);
-          apart = λ u. few u (total_append (λ h. visits u (trace n (value_at new) h.newest)) done (e ∷ rest)) (total_append (λ h. visits u (trace n (value_at cur) h.newest)) done (e ∷ rest))
-              (same (visits u) done d) (same (visits u) rest r) (ap (visits u) t.cut) (cut_fewer oldest u (trace n (value_at cur) e.1.newest)) (f.apart u);
-          count = omega arith;
-        }
-      where
-        few : (u : ℕ) → total (λ h. visits u (trace n (value_at new) h.newest)) (done ++ e ∷ rest)
-            ≡ total (λ h. visits u (trace n (value_at new) h.newest)) done + (visits u (trace n (value_at new) e.1.newest) + total (λ h. visits u (trace n (value_at new) h.newest)) rest)
-            → total (λ h. visits u (trace n (value_at cur) h.newest)) (done ++ e ∷ rest)
-            ≡ total (λ h. visits u (trace n (value_at cur) h.newest)) done + (visits u (trace n (value_at cur) e.1.newest) + total (λ h. visits u (trace n (value_at cur) h.newest)) rest)
-            → total (λ h. visits u (trace n (value_at new) h.newest)) done ≡ total (λ h. visits u (trace n (value_at cur) h.newest)) done
-            → total (λ h. visits u (trace n (value_at new) h.newest)) rest ≡ total (λ h. visits u (trace n (value_at cur) h.newest)) rest
-            → visits u (trace n (value_at new) e.1.newest) ≡ visits u (cut_at oldest (trace n (value_at cur) e.1.newest))
-            → visits u (cut_at oldest (trace n (value_at cur) e.1.newest)) ≤ visits u (trace n (value_at cur) e.1.newest)
-            → total (λ h. visits u (trace n (value_at cur) h.newest)) (done ++ e ∷ rest) ≤ 1
-            → total (λ h. visits u (trace n (value_at new) h.newest)) (done ++ e ∷ rest) ≤ 1
-        few u a b c d' i j k = omega arith
-
-    pub trimming_goes_on : (es done rest : List (K × Head)) → Trimming es done (e ∷ rest) cur → Trimming es (done ++ e ∷ []) rest new
-    trimming_goes_on es done rest g =
-        let f : IsForest n cur (done ++ e ∷ rest) = subst (IsForest n cur) g.split g.forest in
-        let apart : (u : ℕ) → total (λ h. visits u (trace n (value_at cur) h.newest)) done + (visits u (trace n (value_at cur) e.1.newest) + total (λ h. visits u (trace n (value_at cur) h.newest)) rest) ≤ 1 =
-        λ u. subst (λ k. k ≤ 1) (total_append (λ h. visits u (trace n (value_at cur) h.newest)) done (e ∷ rest)) (f.apart u) in
-        let P : K × Head → Type 0 = λ x. Ends n (value_at cur) x.1.newest in
-        let d = stay done (all_left P done (e ∷ rest) f.ends) (λ u. omega (arith, apart u)) in
-        let r = stay rest (all_right P done (e ∷ rest) f.ends).1 (λ u. omega (arith, apart u)) in
-        let whole : (done ++ e ∷ []) ++ rest ≡ done ++ e ∷ rest = simp append_assoc in
-        let more : cur.spare ≤ new.spare = t.spare in
-        let more' : old.spare ≤ cur.spare = g.spare in
-        record {
-          split = g.split ∙ sym whole;
-          forest = subst (IsForest n new) (sym g.split) (forest_goes_on done rest f d r);
-          cut = all_append _ done (e ∷ [])
-              (all_both _ _ (λ x. trace n (value_at new) x.1.newest ≡ cut_at oldest (trace n (value_at old) x.1.newest)) (λ x p q. p.0 ∙ q) done d g.cut)
-              (t.cut ∙ ap (cut_at oldest) g.left.0, tt);
-          left = all_both _ _ (λ x. trace n (value_at new) x.1.newest ≡ trace n (value_at old) x.1.newest) (λ x p q. p.0 ∙ q) rest r g.left.1;
-          cap = t.cap ∙ g.cap;
-          spare = omega arith;
-        }
-
-  -- the next chain to be cut, with as many steps as there are slots in use
-  pub line_of : (es done rest : List (K × Head)) (cur : Slots (Node V)) (e : K × Head) → Trimming es done (e ∷ rest) cur
-      → Ends n (value_at cur) e.1.newest × ((length (trace n (value_at cur) e.1.newest) ≤ live_count cur) × IsLine (live_count cur) (value_at cur) e.1.newest)
-  line_of es done rest cur e g =
-      let f : IsForest n cur (done ++ e ∷ rest) = subst (IsForest n cur) g.split g.forest in
-      let ends : Ends n (value_at cur) e.1.newest = (all_right (λ x. Ends n (value_at cur) x.1.newest) done (e ∷ rest) f.ends).0 in
-      let sum : total (λ h. length (trace n (value_at cur) h.newest)) (done ++ e ∷ rest)
-      ≡ total (λ h. length (trace n (value_at cur) h.newest)) done + (length (trace n (value_at cur) e.1.newest) + total (λ h. length (trace n (value_at cur) h.newest)) rest) =
-      total_append (λ h. length (trace n (value_at cur) h.newest)) done (e ∷ rest) in
-      let all : total (λ h. length (trace n (value_at cur) h.newest)) (done ++ e ∷ rest) ≡ live_count cur = f.count in
-      let le : length (trace n (value_at cur) e.1.newest) ≤ live_count cur = omega arith in
-      let fits : (trace (live_count cur) (value_at cur) e.1.newest ≡ trace n (value_at cur) e.1.newest) × Ends (live_count cur) (value_at cur) e.1.newest = trace_fits n (live_count cur) (value_at cur) e.1.newest ends le in (
-        ends,
-        (
-          le,
-          record {
-            ends = fits.1;
-            once = λ u.
-                let few : total (λ h. visits u (trace n (value_at cur) h.newest)) done + (visits u (trace n (value_at cur) e.1.newest) + total (λ h. visits u (trace n (value_at cur) h.newest)) rest) ≤ 1 =
-                subst (λ k. k ≤ 1) (total_append (λ h. visits u (trace n (value_at cur) h.newest)) done (e ∷ rest)) (f.apart u) in
-                subst (λ ps. visits u ps ≤ 1) (sym fits.0) (omega arith);
-          },
-        ),
-      )
 
 module _ {K V : Type 0} where
   kept_total : (f : Option ℕ → List (Version V)) (es : List (K × Head)) → kept_count (kept_by f es) ≡ total (λ h. length (f h.newest)) es

@@ -7,7 +7,7 @@ use Rattle.r3_pool.specs.Slots.{Slots, value_at, live_count}
 use Rattle.r3_chain.specs.Versions.{Version, AreFalling}
 use Rattle.r3_chain.specs.Links.{Cells, Placed, onto, trace, ends_with, Ends, versions_in, visits}
 use Rattle.r3_chain.specs.Sound.{total}
-use Rattle.r3_chain.specs.Cuts.{cut_at, IsLine, Trims, IsForest, TrimsAll}
+use Rattle.r3_chain.specs.Cuts.{cut_at}
 use Rattle.r3_chain.specs.Long.{times, listed, older_in, older_at, InOrder, uses_by, IsLong}
 use Rattle.r3_chain.specs.declared.node.Node.{Node}
 use Rattle.r3_chain.specs.declared.head.Head.{Head}

@@ -147,12 +147,6 @@ module _ {V : Type 0} where
       let rest : visits t (behind oldest ps) ≤ visits t ps = behind_fewer oldest t ps in
       elim (nat_le p.1.0 oldest) as (λ b. visits t (cond b ps (behind oldest ps)) ≤ visits t (p ∷ ps)) [ true ↦ omega arith | false ↦ omega arith ]
 
-  pub cut_fewer : (oldest t : ℕ) (ps : List (Placed V)) → visits t (cut_at oldest ps) ≤ visits t ps
-  cut_fewer oldest t [] = omega arith
-  cut_fewer oldest t (p ∷ ps) =
-      let rest : visits t (cut_at oldest ps) ≤ visits t ps = cut_fewer oldest t ps in
-      elim (nat_le p.1.0 oldest) as (λ b. visits t (cond b (p ∷ []) (p ∷ cut_at oldest ps)) ≤ visits t (p ∷ ps)) [ true ↦ omega arith | false ↦ omega arith ]
-
   cut_length : (oldest : ℕ) (ps : List (Placed V)) → length (cut_at oldest ps) + length (behind oldest ps) ≡ length ps
   cut_length oldest [] = refl
   cut_length oldest (p ∷ ps) =

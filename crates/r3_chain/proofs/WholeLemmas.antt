@@ -16,7 +16,7 @@ use Rattle.r3_chain.specs.declared.node.Node.{Node}
 use Rattle.r3_chain.specs.declared.head.Head.{Head}
 use Rattle.r3_chain.proofs.LinkLemmas.{trace_step, first_live, one}
 use Rattle.r3_chain.proofs.HeadLemmas.{all_map}
-use Rattle.r3_chain.proofs.ForestLemmas.{all_right}
+use Rattle.r3_chain.proofs.ForestLemmas.{TrimsAll, all_right, same_total, sound_trimmed}
 use Rattle.r3_chain.proofs.SoundLemmas.{new_uses}
 use Rattle.r3_chain.proofs.RoomLemmas.{sound_all, uses_all, rooms_all, later_round, more_spare}
 use Rattle.r3_chain.proofs.LongLemmas.{times_append, found, through, order_same, order_more}
@@ -36,9 +36,6 @@ module _ {K V : Type 0} where
     all = λ t used has. is.all t used has;
     order = order_same nodes (with_spare nodes k) long (λ x on. refl) is.order;
   }
-
-  pub long_none : (nodes : Slots (Node V)) → IsLong {K = K} (live_count nodes) nodes [] []
-  long_none nodes = record { once = λ t. omega arith; all = λ t used has. absurd (omega arith); order = tt }
 
   -- what is behind a version is in use
   older_live : (n : ℕ) (nodes : Slots (Node V)) (es : List (K × Head)) → AllByRecursion (λ e. Ends n (value_at nodes) e.1.newest) es
@@ -123,6 +120,18 @@ module _ {K V : Type 0} (cmp : K → K → Ordering) (o : IsTotalOrder cmp) (es 
       ordered : (r : Option ℕ) → InOrder new (listed s r long)
       ordered None = order_same old new long stays_at l.order
       ordered (Some r) = order_more old new long s (λ t on. (stays_at t on, λ u q. other u (older_live (live_count old) old es ends t u (used_of t on) q))) l.order
+
+-- all that is true of the fields, after a trim
+module _ {K V : Type 0} (cmp : K → K → Ordering) (es : List (K × Head)) (old new : Slots (Node V)) (cap round last oldest : ℕ) where
+  pub whole_trimmed : (ss rs : List ℕ) (a b : ℕ) → IsWhole cmp es old cap round last ss a → TrimsAll (live_count old) oldest es old new → IsLong (live_count old) new es rs
+      → length rs ≤ length ss → a ≤ b → IsWhole cmp es new cap round last rs b
+  whole_trimmed ss rs a b w t long fewer le =
+      let fits : length ss + room_count round es ≤ a = w.fits in
+      record {
+        sound = sound_trimmed cmp es old new cap round last oldest w.sound t;
+        long = long_same (live_count old) (live_count new) new es es rs (λ u. same_total cmp es old new cap round last oldest w.sound t (visits u)) long;
+        fits = omega arith;
+      }
 
 -- all that is true of the fields, while room is made
 module _ {K V : Type 0} (cmp : K → K → Ordering) (o : IsTotalOrder cmp) where

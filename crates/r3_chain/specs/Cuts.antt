@@ -60,16 +60,3 @@ module _ {V : Type 0} where
     pub live : live_count new ≡ live_count old
     pub cap : new.cap ≡ old.cap
     pub spare : new.spare ≡ old.spare
-
-  -- the chains of all keys are whole, come to each slot once, and have each slot in use
-  pub record IsForest {K : Type 0} (n : ℕ) (nodes : Slots (Node V)) (es : List (K × Head)) : Type 0 where
-    pub ends : AllByRecursion (λ e. Ends n (value_at nodes) e.1.newest) es
-    pub apart : (t : ℕ) → total (λ h. visits t (trace n (value_at nodes) h.newest)) es ≤ 1
-    pub count : total (λ h. length (trace n (value_at nodes) h.newest)) es ≡ live_count nodes
-
-  -- and each is cut
-  pub record TrimsAll {K : Type 0} (n oldest : ℕ) (es : List (K × Head)) (old new : Slots (Node V)) : Type 0 where
-    pub forest : IsForest n new es
-    pub cut : AllByRecursion (λ e. trace n (value_at new) e.1.newest ≡ cut_at oldest (trace n (value_at old) e.1.newest)) es
-    pub cap : new.cap ≡ old.cap
-    pub spare : old.spare ≤ new.spare
