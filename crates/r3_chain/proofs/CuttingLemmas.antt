@@ -1,9 +1,9 @@
 -- The chains of all keys, while they are cut behind the versions of the list one by one.
-use Rattle.std.proofs.Common.{◌≡◌, ◌≢◌, ℕ, ◌+◌, ◌<◌, ◌≤◌, zero, suc, true, false, cond, List, [], ◌∷◌, ◌++◌, length, take, drop, Option, Some, None, IsSome, is_some, refl, sym, ap, ◌∙◌, subst, arith, inl, inr, append_assoc}
+use Rattle.std.proofs.Common.{◌≡◌, ◌≢◌, ℕ, ◌+◌, ◌<◌, ◌≤◌, suc, List, [], ◌∷◌, ◌++◌, length, take, drop, Option, Some, None, IsSome, is_some, refl, sym, ap, ◌∙◌, subst, arith, inl, inr, append_assoc}
 use Rattle.std.proofs.Math.ListN.{get_or, set, drop_of_length-le}
 use Rattle.std.proofs.lemmas.List.{drop_more, take_more_set, drop-set-lt}
 use Rattle.std.proofs.lemmas.Bool.Decides.{eqb_tells}
-use Rattle.std.specs.Prelude.{nat_eq, ◌⊎◌}
+use Rattle.std.specs.Prelude.{nat_eq}
 use Rattle.std.specs.List.{AllByRecursion}
 use Rattle.std.specs.declared.cmp.Ordering.{Ordering}
 use Rattle.r3_pool.specs.Slots.{Slots, value_at, live_count}
@@ -11,7 +11,7 @@ use Rattle.r3_chain.specs.Versions.{AreFalling}
 use Rattle.r3_chain.specs.Links.{Placed, trace, Ends, versions_in, visits}
 use Rattle.r3_chain.specs.Sound.{total, IsHead}
 use Rattle.r3_chain.specs.Cuts.{cut_at, IsLine, Trims}
-use Rattle.r3_chain.specs.Long.{times, older_in, older_at, InOrder, uses_by, IsLong, IsWhole}
+use Rattle.r3_chain.specs.Long.{times, older_in, older_at, uses_by, IsLong, IsWhole}
 use Rattle.r3_chain.specs.declared.node.Node.{Node}
 use Rattle.r3_chain.specs.declared.head.Head.{Head}
 use Rattle.r3_chain.proofs.LinkLemmas.{trace_step, trace_stays, trace_fits, first_live, nothing, seen_same, seen_other, one}
@@ -392,8 +392,7 @@ module _ {K V : Type 0} (n oldest : ℕ) (old cur : Slots (Node V)) (done : List
           long = long_now;
           late = λ u x on' at. g.late u x on' (sym (stays_at u (omega (arith, list_now u))) ∙ at);
           same = all_append N done (e ∷ others)
-              (all_both _ S N (λ x p q. ap (cut_at oldest) p.0 ∙ q) done d (all_left S done (e ∷ others) g.same))
-              (
+              (all_both _ S N (λ x p q. ap (cut_at oldest) p.0 ∙ q) done d (all_left S done (e ∷ others) g.same)) (
                 ap (cut_at oldest) now ∙ sym (cut_behind oldest parts.0 (s, (node.index, node.value)) (trace n (value_at cur) node.older) le) ∙ ap (cut_at oldest) (sym was) ∙ (all_right S done (e ∷ others) g.same).0,
                 all_both _ S N (λ x p q. ap (cut_at oldest) p.0 ∙ q) others r (all_right S done (e ∷ others) g.same).1,
               );

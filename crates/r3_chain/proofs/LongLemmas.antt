@@ -1,17 +1,17 @@
 -- The list of the versions that have older ones behind them, while versions are added and chains are cut.
-use Rattle.std.proofs.Common.{◌≡◌, ◌≢◌, ℕ, ◌+◌, ◌<◌, ◌≤◌, zero, suc, true, false, cond, List, [], ◌∷◌, ◌++◌, length, map, Option, Some, None, IsSome, is_some, refl, sym, ap, ◌∙◌, subst, arith, inl, inr, append_assoc}
+use Rattle.std.proofs.Common.{◌≡◌, ◌≢◌, ℕ, ◌+◌, ◌<◌, ◌≤◌, zero, suc, true, false, cond, List, [], ◌∷◌, ◌++◌, length, Option, Some, None, IsSome, refl, sym, ap, ◌∙◌, subst, arith, inl, inr}
 use Rattle.std.proofs.lemmas.Bool.Decides.{eqb_tells, nat_tests}
 use Rattle.std.specs.Prelude.{nat_eq, nat_le, ◌⊎◌}
 use Rattle.std.specs.List.{AllByRecursion}
-use Rattle.r3_pool.specs.Slots.{Slots, value_at, live_count}
+use Rattle.r3_pool.specs.Slots.{Slots}
 use Rattle.r3_chain.specs.Versions.{Version, AreFalling}
 use Rattle.r3_chain.specs.Links.{Cells, Placed, onto, trace, ends_with, Ends, versions_in, visits}
 use Rattle.r3_chain.specs.Sound.{total}
 use Rattle.r3_chain.specs.Cuts.{cut_at}
-use Rattle.r3_chain.specs.Long.{times, listed, older_in, older_at, InOrder, uses_by, IsLong}
+use Rattle.r3_chain.specs.Long.{times, older_in, older_at, InOrder}
 use Rattle.r3_chain.specs.declared.node.Node.{Node}
 use Rattle.r3_chain.specs.declared.head.Head.{Head}
-use Rattle.r3_chain.proofs.LinkLemmas.{trace_longer, trace_step, trace_fits, first_live, visited_live, nothing, seen_same, seen_other, one}
+use Rattle.r3_chain.proofs.LinkLemmas.{trace_longer, trace_step, trace_fits, first_live, nothing, seen_same, seen_other, one}
 
 pub times_append : (t : ℕ) (xs ys : List ℕ) → times t (xs ++ ys) ≡ times t xs + times t ys
 times_append t [] ys = omega arith

@@ -1,5 +1,5 @@
 -- The list of versions with older ones behind them stays right: after an install, after a trim, and while keys are given room.
-use Rattle.std.proofs.Common.{◌≡◌, ◌≢◌, ℕ, ◌+◌, ◌<◌, ◌≤◌, max, true, false, cond, List, [], ◌∷◌, ◌++◌, length, Option, Some, None, IsSome, is_some, refl, sym, ap, ◌∙◌, subst, arith, inl, inr}
+use Rattle.std.proofs.Common.{◌≡◌, ◌≢◌, ℕ, ◌+◌, ◌<◌, ◌≤◌, max, true, false, List, [], ◌∷◌, ◌++◌, length, Option, Some, None, IsSome, is_some, refl, sym, ap, ◌∙◌, subst, arith, inl, inr}
 use Rattle.std.proofs.lemmas.Bool.Decides.{eqb_tells}
 use Rattle.std.specs.Prelude.{nat_eq}
 use Rattle.std.specs.List.{AllByRecursion}
@@ -8,7 +8,7 @@ use Rattle.std.specs.declared.cmp.Ordering.{Ordering}
 use Rattle.std.specs.FinMap.{find}
 use Rattle.std.specs.FinMap.Entries.{put}
 use Rattle.r3_pool.specs.Slots.{Slots, Fills, value_at, live_count, with_spare}
-use Rattle.r3_chain.specs.Links.{trace, Ends, visits, IsChain}
+use Rattle.r3_chain.specs.Links.{trace, Ends, visits}
 use Rattle.r3_chain.specs.Heads.{newest_in, written, all_roomed}
 use Rattle.r3_chain.specs.Sound.{one_if, uses, room_count, IsHead, IsSound}
 use Rattle.r3_chain.specs.Long.{times, listed, older_in, older_at, InOrder, uses_by, IsLong, IsWhole}

@@ -1,11 +1,8 @@
 -- What stands in the slots after a chain is cut behind a version.
 use Rattle.std.specs.Prelude.{◌≡◌, ◌≢◌, ℕ, ◌+◌, ◌<◌, ◌≤◌, cond, nat_le, List, [], ◌∷◌, length, Option, Some, None}
-use Rattle.std.specs.List.{AllByRecursion}
 use Rattle.r3_pool.specs.Slots.{Slots, value_at, live_count}
 use Rattle.r3_chain.specs.Links.{Cells, Placed, trace, Ends, visits}
-use Rattle.r3_chain.specs.Sound.{total}
 use Rattle.r3_chain.specs.declared.node.Node.{Node}
-use Rattle.r3_chain.specs.declared.head.Head.{Head}
 
 module _ {V : Type 0} where
   -- the versions past the index, and the last one up to it

@@ -6,7 +6,9 @@ ghost use Rattle.std.specs.FinMap.{IsAntisymmetric};
 ghost use Rattle.r3_chain.specs.Versions.{first_past as past, kept_count, versions_of, installed, IsNext, has_room, without, key_set, version_at, present, range_at, trimmed_all};
 
 use crate::head::{Head, give_rooms, newest, push_newest, replace_newest};
-use crate::node::{Node, first_past, last_upto, list_version, present_upto, put_version, version_upto};
+use crate::node::{
+    Node, first_past, last_upto, list_version, present_upto, put_version, version_upto,
+};
 use crate::trim::trim_chain;
 use r3_pool::{Pool, PoolFault, Slot};
 use r3_value::Memory;

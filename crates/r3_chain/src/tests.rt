@@ -207,6 +207,39 @@ fn a_version_added_tells_the_one_before(rt: HostRuntime) -> Result<(), Fail> {
     Ok(())
 }
 
+// There may be four versions, so each of the later ones takes a slot that a trim gave back.
+#[test]
+fn trims_between_overwrites_discard_what_no_later_index_reads(rt: HostRuntime) -> Result<(), Fail> {
+    let alloc = rt.alloc();
+    let mut both = Both::new(alloc, 4);
+    // the index trimmed at, then index, key, value or none for a deletion, whether a slot is free
+    let steps = [
+        (0, 1, 1, Some(10), true),
+        (0, 2, 2, Some(20), true),
+        (2, 3, 1, Some(11), true),
+        (2, 4, 1, Some(12), true),
+        (2, 5, 2, None, false),
+        (3, 5, 2, None, true),
+        (3, 6, 1, Some(13), false),
+        (5, 6, 1, Some(13), true),
+        (5, 7, 1, Some(14), true),
+        (5, 8, 3, Some(30), false),
+        (6, 8, 3, Some(30), true),
+        (7, 9, 2, Some(21), true),
+    ];
+    for (oldest, index, key, value, free) in steps {
+        both.trim(oldest);
+        assert_eq!(rt;
+            both.add(index, key, value).is_ok(),
+            free,
+            "version {index}"
+        );
+        compare(&rt, alloc, &both, oldest)?;
+    }
+    assert_eq!(rt; both.plain.len(), 9);
+    Ok(())
+}
+
 #[test]
 fn a_deletion_is_a_version(rt: HostRuntime) -> Result<(), Fail> {
     let mut both = Both::new(rt.alloc(), 8);

@@ -120,7 +120,7 @@ invariant_of-self-2 g c =
     let free : vec_len c.reserve-2.new.self + c.len-count.result ≤ vec_capacity c.reserve-2.new.self = on_ok c.reserve-2.result _ (sym c.is_err.ensures.value ∙ c.if-is_err.false) c.reserve-2.ensures.ok in
     rw made (record {
       sound = (next_round g.K.Ord.cmp g.met.K.Ord.total c.reserve.new.self c.self.inside.cap c.self.inside.round (c.self.inside.last + 1) (all_roomed g.K.Ord.cmp c.self.inside.round (c.self.inside.last + 1) c.in-Ok.keys.keys c.self.inside.heads.entries) (omega arith) (omega arith)
-    (sound_all g.K.Ord.cmp g.met.K.Ord.total c.reserve.new.self c.self.inside.cap c.self.inside.round (c.self.inside.last + 1) (c.self.inside.last + 1) c.in-Ok.keys.keys c.self.inside.heads.entries lt le later));
+          (sound_all g.K.Ord.cmp g.met.K.Ord.total c.reserve.new.self c.self.inside.cap c.self.inside.round (c.self.inside.last + 1) (c.self.inside.last + 1) c.in-Ok.keys.keys c.self.inside.heads.entries lt le later));
       long = whole.long;
       fits = omega arith;
     })
