@@ -1,5 +1,6 @@
 //! Stores whose bytes were written by hand: a full one, one with other steps, one of another program.
 
+use crate::answers::asked_words;
 use crate::bank::BANK;
 use crate::play::{desk_over, played, taken_up};
 use r3_recover::StartFault;
@@ -64,6 +65,47 @@ fn the_last_entry_is_number_1_000_000(rt: HostRuntime) -> Result<(), Fail> {
         ("len", "1000000"),
     ];
     played(&rt, alloc, &image, SHORT, &steps)?;
+    Ok(())
+}
+
+// One workflow calls a transaction, and one the outside.
+const CALLS: &str =
+    "outside tell(n); txn a() {} flow g() { let r = call a(); return r; } flow t() { let r = call tell(1); return r; }";
+
+// A turn whose entry has no room leaves the snapshot open, and an external call that was made is made again. Taken up
+// again, what runs isn't recovered.
+#[test]
+fn a_turn_without_room_leaves_all_as_it_was(rt: HostRuntime) -> Result<(), Fail> {
+    let alloc = rt.alloc();
+    let image = image_of(alloc, CALLS, &[], 999_995)?;
+    let steps = [
+        ("len", "999996"),
+        ("start g1 g", "entry 999997 g1"),
+        ("start t1 t", "entry 999998 t1"),
+        ("turn g1", "began 999998"),
+        ("start g2 g", "entry 999999 g2"),
+        ("start g3 g", "entry 1000000 g3"),
+        ("turn g1", "full entries"),
+        ("turn g1", "full entries"),
+        ("turn t1", "full entries"),
+        ("turn t1", "full entries"),
+    ];
+    let desk = played(&rt, alloc, &image, CALLS, &steps)?;
+    let asked = asked_words(alloc, &desk)?;
+    assert_eq!(rt;
+        asked.as_str(),
+        "t1 0 tell 1: value null; t1 0 tell 1: value null; "
+    );
+    let steps = [
+        ("len", "1000000"),
+        (
+            "status g1",
+            "PENDING g; none; queue none; started 999997; attempts 0; parent none",
+        ),
+        ("turn g1", "began 1000000"),
+        ("turn g1", "full entries"),
+    ];
+    played(&rt, alloc, desk.image(), CALLS, &steps)?;
     Ok(())
 }
 

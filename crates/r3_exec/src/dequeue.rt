@@ -1,6 +1,6 @@
 //! One dequeue of a queue.
 
-ghost use Rattle.std.specs.Prelude.{◌≡◌, ◌+◌, ℕ, List, length, IfOk, IsErrOf, IsTrue, Some, None, Ok};
+ghost use Rattle.std.specs.Prelude.{◌≡◌, ◌+◌, ℕ, List, length, IfOk, OnOk, IsErrOf, IsTrue, Some, None, Ok};
 ghost use Rattle.std.specs.Option.{ForSome};
 ghost use Rattle.std.specs.List.{list_any};
 ghost use Rattle.r3_desk.specs.Causes.{Rose};
@@ -103,6 +103,7 @@ impl Exec {
         ensures does { (st : State) (k : ℕ) → Runs D.size D.image D.may_leave desk.old self.old st k →
             IfOk result (λ end. Does D.size D.image D.may_leave D.asked D.syncs desk.old desk.new self.new st k (Dequeue queue.now) (dequeue_reply end)) }
         ensures program { self.new.program ≡ self.old.program }
+        ensures discards { OnOk result (DiscardsWhenDue self.old self.new) }
 
         // Whatever it comes to, a crash at any moment leaves what was settled before, or all that stood before the event,
         // and that for sure once its call is asked. So reads the disk.
@@ -138,6 +139,9 @@ impl Exec {
         ensures does { (st : State) (k : ℕ) → Runs D.size D.image D.may_leave desk.old self.old st k →
             IfOk result (λ end. Does D.size D.image D.may_leave D.asked D.syncs desk.old desk.new self.new st k (Dequeue queue.now) (dequeue_reply end)) }
         ensures program { self.new.program ≡ self.old.program }
+
+        // It closes no snapshot, so that nothing is discarded, and none is noted as done.
+        ensures discards { OnOk result (DiscardsWhenDue self.old self.new) }
 
         // Whatever it comes to, a crash at any moment leaves what was settled before, or all that stood before the event,
         // and that for sure once its call is asked. So reads the disk.

@@ -46,7 +46,7 @@ impl Exec {
     }
 
     // Discards the versions that no open snapshot reads, where enough entries have been added since the last time:
-    // it goes through all keys.
+    // it looks at each version that has an older one behind it.
     fn vacuum_when_due(&mut self)
         requires { (h : List Entry) × (begun : Begun) × Keeps self.old h begun }
         ensures program { self.new.program ≡ self.old.program }

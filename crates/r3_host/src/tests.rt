@@ -57,18 +57,20 @@ fn calls_are_written_and_answers_read_in_order(rt: HostRuntime) -> Result<(), Fa
     fs::write(
         &rt,
         "asked.in",
-        "{\"value\":7}\nno answer\n{\"failure\":\"gone\"}",
+        "{\"value\":7}\nno answer\n\n{\"value\":1,\"failure\":\"both\"}\n{\"failure\":\"gone\"}",
     )?;
     let mut desk = HostDesk::at(rt, alloc, "asked")?;
     assert!(rt;
         desk.ask("m1", 1, "notify", &Val::Int(3))?
             .same(&Outcome::Value(Val::Int(7)))
     );
-    // a line that is no answer is passed over
-    assert_eq!(rt;
-        desk.ask("m1", 2, "pay", &Val::Null).err(),
-        Some(AskFault::Fault)
-    );
+    // a line that is no answer is passed over, as are a blank one and one with two keys
+    for _ in 0..3 {
+        assert_eq!(rt;
+            desk.ask("m1", 2, "pay", &Val::Null).err(),
+            Some(AskFault::Fault)
+        );
+    }
     let gone = Outcome::Failure(Txt::new(alloc, "gone")?);
     assert!(rt; desk.ask("m1", 2, "pay", &Val::Null)?.same(&gone));
     // the answers have ended
@@ -77,7 +79,7 @@ fn calls_are_written_and_answers_read_in_order(rt: HostRuntime) -> Result<(), Fa
         Some(AskFault::Fault)
     );
     let calls = fs::read_to_string(&rt, "asked.out")?;
-    assert_eq!(rt; calls.as_str().lines().count(), 4);
+    assert_eq!(rt; calls.as_str().lines().count(), 6);
     assert_eq!(rt;
         calls.as_str().lines().next(),
         Some("{\"args\":3,\"id\":\"m1\",\"n\":1,\"name\":\"notify\"}")

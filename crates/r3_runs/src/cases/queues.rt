@@ -1,6 +1,6 @@
 //! Queues with their bounds: what they start, what frees a place, and drains over several of them.
 
-use super::answered;
+use super::{TINY, answered};
 use std::test::Fail;
 
 const QUEUES: &str = "queue one 1; queue two 2; flow done(n) { return n; }
@@ -140,6 +140,13 @@ fn a_queue_runs_as_many_as_its_bound(rt: HostRuntime) -> Result<(), Fail> {
     for (script, replies) in [BOUNDS, RESUMED, ROUNDS, BLOCKED] {
         answered(&rt, rt.alloc(), QUEUES, b"", script.as_bytes(), replies)?;
     }
+    Ok(())
+}
+
+#[test]
+fn a_drain_with_nothing_to_try_takes_no_turn(rt: HostRuntime) -> Result<(), Fail> {
+    let replies = "{\"drain\":\"idle\",\"turns\":0}\n";
+    answered(&rt, rt.alloc(), TINY, b"", b"{\"drain\":100}\n", replies)?;
     Ok(())
 }
 

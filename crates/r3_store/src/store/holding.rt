@@ -50,7 +50,7 @@ impl Store {
 
     /// Discards the versions that only snapshots before all pinned ones saw, or, where none is pinned,
     /// before the length. All reads at pinned snapshots and at the length stay. It takes no memory, and
-    /// goes through all keys.
+    /// looks only at versions that have older ones behind them.
     pub fn vacuum(&mut self)
         ensures keeps { (h : List Entry) → Stands self.old h → Stands self.new h }
 

@@ -4,6 +4,7 @@ use Rattle.r3_exec.specs.Ends.{dequeue_reply}
 use Rattle.r3_exec.specs.declared.dequeue.Dequeued.{Dequeued}
 use Rattle.r3_exec.proofs.Doing.{by_answer}
 use Rattle.r3_exec.proofs.Leaving.{quiet}
+use Rattle.r3_exec.proofs.Discarding.{nothing_done}
 use Rattle.r3_exec.proofs.exec.Exec.dequeue.Goals as goal
 
 pub enter_start-requires-clause-gives : goal.enter_start-requires-clause-gives
@@ -26,3 +27,6 @@ returns-in-Err-clause-crash g c = λ st k runs.
     quiet g.D.Desk.may_leave g.D.Desk.moment g.D.Desk.reach g.D.Desk.said g.D.Desk.asked c.args.desk.now st.history k
     (g.met.D.Desk.counts_now c.args.desk.now) (g.met.D.Desk.only_now c.args.desk.now)
     (λ image left. c.reads_as_settled.ensures.crash c.args.desk.now c.args.self.now.store st.history k image runs.holds left)
+
+pub returns-in-Ok-Stays-clause-discards : goal.returns-in-Ok-Stays-clause-discards
+returns-in-Ok-Stays-clause-discards g c = nothing_done c.args.self.now
