@@ -16,6 +16,7 @@ ghost use Rattle.r3_model.specs.Event.{Dequeue, EntryOf};
 ghost use Rattle.r3_model.specs.Given.{Answers};
 ghost use Rattle.r3_model.specs.Queues.{dequeued};
 ghost use Rattle.r3_exec.specs.Runs.{Runs, Stands, language};
+ghost use Rattle.r3_exec.specs.Discards.{DiscardsWhenDue};
 ghost use Rattle.r3_exec.specs.Does.{Does, IsRead, Leaves};
 ghost use Rattle.r3_exec.specs.Ends.{dequeue_reply};
 ghost use Rattle.r3_exec.specs.Entered.{Gives, HasNumber, reply_after};
