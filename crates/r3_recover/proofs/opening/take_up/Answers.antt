@@ -1,7 +1,9 @@
 use Rattle.std.proofs.Common.{◌≡◌, ◌≢◌, ℕ, List, [], ◌∷◌, true, inl, length, refl, sym, ap, ◌∙◌, subst, arith}
 use Rattle.r3_entry.specs.declared.entry.Entry.{Entry}
 use Rattle.r3_entry.specs.Image.{IsHistoryOf}
+use Rattle.r3_desk.specs.Moments.{LeavesImage}
 use Rattle.r3_exec.proofs.Syncs.{no_more}
+use Rattle.r3_recover.specs.Recovering.{IsTaken}
 use Rattle.r3_recover.proofs.opening.take_up.Goals as goal
 
 none-of : (h : List Entry) → 0 ≡ length h → h ≡ []
@@ -10,6 +12,17 @@ none-of (e ∷ es) is = absurd (omega (arith, is))
 
 some-of : (h : List Entry) (n : ℕ) → n ≡ length h → (n ≡ 0 → ⊥) → h ≢ []
 some-of h n is not none = not (is ∙ ap (λ (es : List Entry). length es) none)
+
+pub returns-then-len-eq0-clause-does : goal.returns-then-len-eq0-clause-does
+returns-then-len-eq0-clause-does g c = λ from h t.
+    let none = none-of h (sym c.if-len-eq0.true ∙ c.len.ensures h t.opens.holds.stands) in
+    c.begin_exec.ensures.does from (subst (IsTaken g.D.Desk.size g.D.Desk.image g.D.Desk.may_leave g.D.Desk.moment g.D.Desk.reach g.D.Desk.said g.D.Desk.asked g.D.Desk.syncs from c.args.desk.now c.args.store) none t)
+
+pub returns-then-len-eq0-clause-crash : goal.returns-then-len-eq0-clause-crash
+returns-then-len-eq0-clause-crash g c = λ from h t.
+    let none = none-of h (sym c.if-len-eq0.true ∙ c.len.ensures h t.opens.holds.stands) in
+    let taken = subst (IsTaken g.D.Desk.size g.D.Desk.image g.D.Desk.may_leave g.D.Desk.moment g.D.Desk.reach g.D.Desk.said g.D.Desk.asked g.D.Desk.syncs from c.args.desk.now c.args.store) none t in
+    subst (λ (es : List Entry). LeavesImage g.D.Desk.moment g.D.Desk.reach g.D.Desk.may_leave g.D.Desk.said g.D.Desk.asked from c.begin_exec.new.desk (IsHistoryOf es)) (sym none) (c.begin_exec.ensures.crash from taken)
 
 pub returns-then-len-eq0-clause-reads : goal.returns-then-len-eq0-clause-reads
 returns-then-len-eq0-clause-reads g c = λ from h t i told.
