@@ -70,7 +70,7 @@ abbrev pub queues_in : Option FlowRow → ℕ
 queues_in None = 9
 queues_in (Some r) = is_there r.queue
 
-abbrev number_in : Option FlowRow → ℕ
+abbrev pub number_in : Option FlowRow → ℕ
 number_in None = 0
 number_in (Some r) = r.started
 

@@ -1,15 +1,16 @@
--- Worked cases of made entries: a resume, a fork and a recovery that agree, and others that differ in one thing.
-use Rattle.std.proofs.Common.{◌≡◌, ℕ, List, [], ◌∷◌, ◌++◌, Option, Some, None, refl, ap, pos, arith}
+-- Worked cases of made entries: a resume, a fork and a recovery that agree, and others that differ in one thing; so do a
+-- start, a load and an outside call.
+use Rattle.std.proofs.Common.{◌≡◌, ℕ, List, [], ◌∷◌, ◌++◌, length, Option, Some, None, refl, ap, pos, arith}
 use Rattle.std.specs.Prelude.{codes}
 use Rattle.r3_value.specs.declared.value.Val.{Val}
-use Rattle.r3_value.specs.declared.value.Val.TheVariants.{Int}
+use Rattle.r3_value.specs.declared.value.Val.TheVariants.{Null, Int}
 use Rattle.r3_value.specs.declared.value.Outcome.TheVariants as outcomes
 use Rattle.r3_rows.specs.declared.rows.Key.{Key}
 use Rattle.r3_rows.specs.declared.rows.Cell.{Cell}
 use Rattle.r3_rows.specs.declared.rows.FlowRow.{FlowRow}
 use Rattle.r3_rows.specs.declared.rows.StepKind.TheVariants as kinds
 use Rattle.r3_rows.specs.declared.rows.StepRow.{StepRow}
-use Rattle.r3_rows.specs.declared.rows.Status.TheVariants.{Enqueued, Pending, Cancelled}
+use Rattle.r3_rows.specs.declared.rows.Status.TheVariants.{Pending}
 use Rattle.r3_entry.specs.declared.entry.Act.TheVariants as acts
 use Rattle.r3_entry.specs.declared.entry.Entry.{Entry}
 use Rattle.r3_model.specs.Language.{Text}
@@ -17,10 +18,10 @@ use Rattle.r3_model.specs.Event.{Entry as EntryReply, EntryOf}
 use Rattle.r3_model.specs.Given.{Given, Enters, Answers}
 use Rattle.r3_model.specs.Made.{Agrees}
 use Rattle.r3_model.specs.Schedule.{step_written}
-use Rattle.r3_model.proofs.Bank.{bank}
-use Rattle.r3_model.proofs.WorkedReplay.{int, m1, plain, flow, step_row, args_m1}
+use Rattle.r3_model.proofs.Bank.{bank, args2}
+use Rattle.r3_model.proofs.WorkedReplay.{int, txt, m1, plain, flow, row, step_row, args_m1}
 use Rattle.r3_worked.proofs.Made.{program, before, paid}
-use Rattle.r3_worked.proofs.Agreeing.{sent, stands, IsAnother, enters, count_given, row_given, is_there, attempts_in, queues_in, e1, s1, waits, one_waits, one_runs, cancelled}
+use Rattle.r3_worked.proofs.Agreeing.{sent, stands, IsAnother, enters, count_given, row_given, attempts_in, queues_in, number_in, e1, s1, waits, one_waits, one_runs, cancelled}
 
 -- ---- a resume
 
@@ -116,3 +117,20 @@ step_given (Enters e r) = paid_by (step_written e m2 0)
 
 a_fork_whose_step_is_another : IsAnother source (forked 1 (pays 4 ∷ []))
 a_fork_whose_step_is_another = ((λ a. let z : 3 ≡ 4 = ap step_given a.gives in absurd (omega (arith, z))), refl, refl, omega arith, refl)
+
+-- ---- a start, a load and an outside call
+
+a_start_of_another_number : IsAnother (program ∷ []) (plain 1 (acts.Start s1) (stands s1 (sent 1) ∷ []))
+a_start_of_another_number = ((λ a. let z : 2 ≡ 1 = ap (λ g. number_in (row_given s1 g)) a.gives in absurd (omega (arith, z))), refl, refl, omega arith, refl)
+
+-- the last of equal keys is the one that is loaded
+a_load_of_one_row_twice : IsAnother (program ∷ []) (plain 1 acts.Load (row (codes "a") (pos 10) ∷ row (codes "a") (pos 5) ∷ []))
+a_load_of_one_row_twice = ((λ a. let z : 1 ≡ 2 = ap count_given a.gives in absurd (omega (arith, z))), refl, refl, omega arith, tt)
+
+abbrev name_given : Given → ℕ
+name_given (Answers r) = 0
+name_given (Enters e r) = elim (step_written e m1 1) [ None ↦ 0 | Some r ↦ length r.name ]
+
+-- notify is asked for
+a_call_of_another_name : IsAnother source (plain 4 (acts.Outside m1 1 (args2 (txt (codes "b")) (int 3))) (step_row m1 1 (codes "tell") kinds.Outside Null ∷ []))
+a_call_of_another_name = ((λ a. let z : 6 ≡ 4 = ap name_given a.gives in absurd (omega (arith, z))), refl, refl, omega arith, refl)

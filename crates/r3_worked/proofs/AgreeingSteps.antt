@@ -2,7 +2,6 @@
 use Rattle.std.proofs.Common.{◌≡◌, ℕ, ◌+◌, List, [], ◌∷◌, ◌++◌, Option, Some, None, refl, ap, pos, arith}
 use Rattle.std.specs.Prelude.{codes}
 use Rattle.std.specs.Fmt.{digits}
-use Rattle.r3_value.specs.declared.value.Val.{Val}
 use Rattle.r3_value.specs.declared.value.Val.TheVariants.{Int}
 use Rattle.r3_value.specs.declared.value.Outcome.{Outcome}
 use Rattle.r3_value.specs.declared.value.Outcome.TheVariants as outcomes
@@ -13,7 +12,6 @@ use Rattle.r3_rows.specs.declared.rows.Cell.TheVariants as cells
 use Rattle.r3_rows.specs.declared.rows.FlowRow.{FlowRow}
 use Rattle.r3_rows.specs.declared.rows.StepKind.{StepKind}
 use Rattle.r3_rows.specs.declared.rows.StepKind.TheVariants as kinds
-use Rattle.r3_rows.specs.declared.rows.StepRow.{StepRow}
 use Rattle.r3_rows.specs.declared.rows.Status.TheVariants.{Pending}
 use Rattle.r3_entry.specs.declared.entry.Act.TheVariants as acts
 use Rattle.r3_entry.specs.declared.entry.Entry.{Entry}
@@ -23,7 +21,7 @@ use Rattle.r3_model.specs.Given.{Given, Enters, Answers}
 use Rattle.r3_model.specs.Made.{Agrees}
 use Rattle.r3_model.specs.Schedule.{step_written}
 use Rattle.r3_model.proofs.Bank.{bank, args1}
-use Rattle.r3_model.proofs.WorkedReplay.{int, txt, m1, plain, args_m1}
+use Rattle.r3_model.proofs.WorkedReplay.{int, txt, m1, plain}
 use Rattle.r3_worked.proofs.Made.{program, before, paid, told, ended}
 use Rattle.r3_worked.proofs.Agreeing.{sent, stands, IsAnother, enters, count_given, row_given, is_there, s1, one_runs, cancelled}
 

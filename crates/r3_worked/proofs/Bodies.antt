@@ -7,8 +7,7 @@ use Rattle.r3_entry.specs.declared.entry.Act.TheVariants as acts
 use Rattle.r3_entry.specs.declared.entry.Entry.{Entry}
 use Rattle.fn_tree.specs.declared.flow.AskKind.TheVariants as asking
 use Rattle.sys_flow.specs.declared.command.Command.TheVariants.{Cancel}
-use Rattle.r3_model.specs.Language.{Text}
-use Rattle.r3_model.specs.Event.{Event, Run, Turn, Dequeue, Nothing, Entry as EntryReply, Conflicts, Began, Unexpects}
+use Rattle.r3_model.specs.Event.{Run, Turn, Dequeue, Nothing, Entry as EntryReply, Conflicts, Began, Unexpects}
 use Rattle.r3_model.specs.Given.{Enters, Answers}
 use Rattle.r3_model.specs.Machine.{given}
 use Rattle.r3_model.specs.Bodies.{Body, bodies_of}

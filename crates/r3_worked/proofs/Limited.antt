@@ -1,5 +1,5 @@
 -- Worked cases of runs and maps beyond the limits of a language.
-use Rattle.std.proofs.Common.{◌≡◌, ℕ, ◌≤◌, ◌<◌, ◌^◌, List, [], ◌∷◌, length, replicate, Option, Some, None, refl, ap, arith, lit≤, lit<}
+use Rattle.std.proofs.Common.{◌≡◌, ℕ, ◌≤◌, ◌<◌, ◌^◌, List, [], ◌∷◌, length, replicate, Some, ap, arith, lit≤, lit<}
 use Rattle.std.specs.Prelude.{codes}
 use Rattle.r3_value.specs.declared.value.Val.{Val}
 use Rattle.r3_value.specs.declared.value.Val.TheVariants.{Null, Text as TextVal, List as ListOf}
@@ -11,7 +11,6 @@ use Rattle.fn_tree.specs.declared.flow.FlowEnd.{FlowEnd}
 use Rattle.fn_tree.specs.declared.flow.FlowEnd.TheVariants.{Asks, Unexpected}
 use Rattle.fn_tree.specs.declared.look.Look.TheVariants.{At, Range}
 use Rattle.fn_tree.specs.declared.look.TxnRun.{TxnRun}
-use Rattle.fn_tree.specs.Writes.{Versions}
 use Rattle.r3_model.specs.Language.{Text}
 use Rattle.r3_model.specs.Lawful.{IsLawful, IsLimited, IsWithinLimits, RunsWell}
 use Rattle.r3_worked.proofs.Languages.{with_flow, with_txn, no_run, empty, function}

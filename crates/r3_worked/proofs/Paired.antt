@@ -1,7 +1,7 @@
 -- Worked cases of drains whose turns are spent within a pair, beside plain drains of as many turns.
 use Rattle.std.proofs.Common.{◌≡◌, ℕ, List, [], ◌∷◌, drop, refl}
 use Rattle.std.specs.Prelude.{codes}
-use Rattle.r3_model.specs.Event.{Event, Reply, Entry as EntryReply, Began, Empty, Idle, Spent}
+use Rattle.r3_model.specs.Event.{Reply, Entry as EntryReply, Began, Empty, Idle, Spent}
 use Rattle.r3_model.specs.Run.{Trail, next}
 use Rattle.r3_model.specs.Drain.{Form, Plain, Paired, Drained, drained}
 use Rattle.r3_model.proofs.Bank.{bank}

@@ -9,7 +9,7 @@ use Rattle.r3_entry.specs.declared.entry.Act.TheVariants as acts
 use Rattle.r3_entry.specs.declared.entry.Entry.{Entry}
 use Rattle.r3_entry.specs.Bytes.{entry, size, record_sizes}
 use Rattle.r3_model.specs.Event.{Event, Turn, Limit, Entries, Bytes, Reply, Full, Entry as EntryReply, Began, Call}
-use Rattle.r3_model.specs.Given.{Given, Enters}
+use Rattle.r3_model.specs.Given.{Enters}
 use Rattle.r3_model.specs.Rows.{step_at}
 use Rattle.r3_model.specs.Machine.{State, Begun, Out, full_of, entered, came, stepped}
 use Rattle.r3_model.proofs.Bank.{bank, args2}

@@ -237,9 +237,9 @@ not_taken_for_changed is = (is.unchanged (codes "take")).1 (others_are_unchanged
 one_was_run_again : {r : Report} → IsReport (Some stored) longer requests (changed Recorded) r → r.reran ≡ 1
 one_was_run_again is =
     is.reran
-      ∙ each_look_is_the_same is.is_unchanged
-      ∙ ap (λ b. rerun_by b (is.is_unchanged (codes "take"))) (not_taken_for_unchanged is)
-      ∙ ap (rerun_by false) (not_taken_for_changed is)
+    ∙ each_look_is_the_same is.is_unchanged
+    ∙ ap (λ b. rerun_by b (is.is_unchanged (codes "take"))) (not_taken_for_unchanged is)
+    ∙ ap (rerun_by false) (not_taken_for_changed is)
 
 all_run_again : IsReport (Some stored) longer requests (changed Recorded) (record report { reran = 2 }) → ⊥
 all_run_again is = let z : 2 ≡ 1 = one_was_run_again is in absurd (omega (arith, z))

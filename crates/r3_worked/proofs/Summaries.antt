@@ -1,9 +1,8 @@
 -- Worked cases of the generator's summary: amounts, workflows that succeeded, and the sum of the accounts.
-use Rattle.std.proofs.Common.{◌≡◌, ℕ, ℤ, pos, negsuc, List, [], ◌∷◌, ◌++◌, Option, Some, None, refl}
+use Rattle.std.proofs.Common.{◌≡◌, ℕ, pos, negsuc, List, [], ◌∷◌, ◌++◌, Option, Some, None, refl}
 use Rattle.std.specs.Prelude.{codes}
 use Rattle.std.specs.Fmt.{digits}
 use Rattle.serde_json.specs.Data.{Data, unsigned, negative, number, object, no_members, member}
-use Rattle.r3_value.specs.declared.value.Val.{Val}
 use Rattle.r3_value.specs.declared.value.Val.TheVariants.{Null, Int, Text as TextVal}
 use Rattle.r3_value.specs.declared.value.Outcome.{Outcome}
 use Rattle.r3_value.specs.declared.value.Outcome.TheVariants as outcomes
@@ -35,12 +34,12 @@ stands id s o = flow id (codes "send") args_m1 s 1 o
 
 abbrev six : List Entry
 six = plain 0 acts.Load (
-  stands (codes "g0") Success (Some (outcomes.Value (int 1)))
-  ∷ stands (codes "g1") Error (Some (outcomes.Failure (codes "short")))
-  ∷ stands (codes "g2") Success (Some (outcomes.Value (int 2)))
-  ∷ stands (codes "g3") Pending None ∷ stands (codes "g4") Enqueued None ∷ stands (codes "g5") Cancelled None
-  ∷ stands (codes "g6") MaxRecoveryAttemptsExceeded None ∷ stands (codes "g7") Success (Some (outcomes.Value (int 7)))
-  ∷ stands (codes "h0") Success (Some (outcomes.Value (int 9))) ∷ []) ∷ []
+    stands (codes "g0") Success (Some (outcomes.Value (int 1)))
+    ∷ stands (codes "g1") Error (Some (outcomes.Failure (codes "short")))
+    ∷ stands (codes "g2") Success (Some (outcomes.Value (int 2)))
+    ∷ stands (codes "g3") Pending None ∷ stands (codes "g4") Enqueued None ∷ stands (codes "g5") Cancelled None
+    ∷ stands (codes "g6") MaxRecoveryAttemptsExceeded None ∷ stands (codes "g7") Success (Some (outcomes.Value (int 7)))
+    ∷ stands (codes "h0") Success (Some (outcomes.Value (int 9))) ∷ []) ∷ []
 
 -- g0 and g2; g7 isn't one of the first seven, and g8 isn't there
 successes_of_so_many : (successes six 0 ≡ 0) × (successes six 1 ≡ 1) × (successes six 7 ≡ 2) × (successes six 9 ≡ 3)
