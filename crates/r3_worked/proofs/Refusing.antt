@@ -11,6 +11,7 @@ use Rattle.r3_entry.specs.Bytes.{entry, size, record_sizes}
 use Rattle.r3_model.specs.Event.{Event, Turn, Limit, Entries, Bytes, Reply, Full, Entry as EntryReply, Began, Call}
 use Rattle.r3_model.specs.Given.{Enters}
 use Rattle.r3_model.specs.Rows.{step_at}
+use Rattle.r3_model.specs.Bodies.{bodies_of}
 use Rattle.r3_model.specs.Machine.{State, Begun, Out, full_of, entered, came, stepped}
 use Rattle.r3_model.proofs.Bank.{bank, args2}
 use Rattle.r3_model.proofs.WorkedReplay.{int, txt, m1, plain}
@@ -44,7 +45,7 @@ size_of_program text =
 abbrev limit_of : ℕ → ℕ → Option Limit
 limit_of n bytes = if nat_le 1000000 n then Some Entries else if nat_lt (2 ^ 30) bytes then Some Bytes else None
 
--- with a text of 2^30 bytes there is no room for any entry
+-- with a text of 2^30 bytes: what is left is told by the other records and the entry alone
 no_room : (text : List ℕ) (more : List Entry) (e : Entry) (n m : ℕ) → length text ≡ 2 ^ 30 → record_sizes (loaded ∷ started ∷ more) ≡ n → length (entry e) ≡ m
     → full_of (under text ++ more) e ≡ limit_of (length (under text ++ more)) (2 ^ 30 + 31 + n + 5 + m)
 no_room text more e n m is sizes last =
@@ -63,6 +64,10 @@ a_commit_without_room : (text : List ℕ) → length text ≡ 2 ^ 30
     → stepped bank (state_of (under text) ((m1, 3) ∷ [])) (Turn m1) None ≡ record { state = state_of (under text) ((m1, 3) ∷ []); reply = Full Bytes; calls = [] }
 a_commit_without_room text is =
     ap (out_by (state_of (under text) ((m1, 3) ∷ [])) (paid 3 3) (EntryReply 4) []) (no_room text [] (paid 3 3) (record_sizes (loaded ∷ started ∷ [])) (length (entry (paid 3 3))) is refl refl)
+
+-- but its body was run
+a_body_without_room : (text : List ℕ) → length (bodies_of bank (under text) (Turn m1) (Some 3)) ≡ 1
+a_body_without_room text = refl
 
 -- a turn that begins needs no room
 a_turn_begins : (text : List ℕ) → stepped bank (state_of (under text) []) (Turn m1) None ≡ record { state = state_of (under text) ((m1, 3) ∷ []); reply = Began 3; calls = [] }
