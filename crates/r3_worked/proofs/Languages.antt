@@ -20,13 +20,13 @@ use Rattle.r3_model.specs.Lawful.{IsLawful, IsLimited}
 abbrev done : FlowEnd
 done = Done (outcomes.Value Null)
 
-abbrev no_run : TxnRun
+abbrev pub no_run : TxnRun
 no_run = record { outcome = outcomes.Value Null; reads = []; writes = [] }
 
 abbrev arity_of : ℕ → Text → Option ℕ
 arity_of n name = Some n
 
-abbrev with_flow : (List Answer → FlowEnd) → Language
+abbrev pub with_flow : (List Answer → FlowEnd) → Language
 with_flow flow = record {
   has_table = λ name. false;
   queues = [];
@@ -76,7 +76,7 @@ ask n = Asks (record { n = n; kind = asking.Txn; name = codes "t"; args = ListOf
 abbrev answer : Answer
 answer = record { name = codes "t"; outcome = outcomes.Value Null }
 
-abbrev function : Text
+abbrev pub function : Text
 function = codes "f"
 
 -- it asks for step 1, where no step is answered
@@ -108,10 +108,10 @@ refuses_its_answer l = l.goes_on function Null [] answer (record { n = 0; kind =
 
 -- ---- transactions that break a law
 
-abbrev with_txn : TxnRun → Language
+abbrev pub with_txn : TxnRun → Language
 with_txn run = record idle { txn = λ name args m. run }
 
-abbrev empty : Versions
+abbrev pub empty : Versions
 empty = record { cell = λ table key. None; version = λ table key. 0; keys = λ table lo hi. [] }
 
 looks_untrue : IsLawful (with_txn (record no_run { reads = At (codes "t") (codes "k") 7 ∷ [] })) → ⊥

@@ -1,6 +1,6 @@
 -- A worked report of a retroaction, whole; and reports that break it.
 use Rattle.std.proofs.Common.{◌≡◌, ◌≢◌, ℕ, Bool, true, false, not, cond, List, [], ◌∷◌, Option, Some, None, refl, sym, ap, subst, ◌∙◌, ◌↔◌, pos, arith, lit<}
-use Rattle.std.specs.Prelude.{codes, bytes_eq, find, IsTrue, ⊤, option_and_then}
+use Rattle.std.specs.Prelude.{◌&&◌, codes, bytes_eq, find, count_by, IsTrue, ⊤, option_and_then}
 use Rattle.std.specs.Ordering.{is_eq}
 use Rattle.std.specs.FinMap.Entries as entries
 use Rattle.std.specs.declared.cmp.Ordering.TheVariants.{Less, Equal, Greater}
@@ -21,7 +21,7 @@ use Rattle.r3_entry.specs.History.{Map, map_at, cell_at}
 use Rattle.fn_tree.specs.declared.program.Item.{Item}
 use Rattle.r3_model.specs.Language.{Text}
 use Rattle.r3_model.specs.Rows.{user_of, flow_of}
-use Rattle.r3_model.specs.Copied.{IsUnchanged, is_txn_of}
+use Rattle.r3_model.specs.Copied.{IsUnchanged, is_txn_of, is_copied}
 use Rattle.r3_model.specs.Retro.{Recorded}
 use Rattle.r3_model.specs.Report.{Standing, Absent, Ended, Other, standing_of, FlowLine, RowLine, Report, IsFlowLine, IsRowLine, AreFlowLines, AreRowLines, IsReport}
 use Rattle.r3_model.proofs.Bank.{args2}
@@ -213,6 +213,39 @@ another_number_of_entries r = let z : 8 ≡ 9 = r.entries in absurd (omega (arit
 
 another_number_of_runs : IsReport (Some stored) longer requests (changed Recorded) (record report { runs = 1 }) → ⊥
 another_number_of_runs r = let z : 1 ≡ 2 = r.runs in absurd (omega (arith, z))
+
+-- any test that tells the unchanged transactions takes `take` for one of them, and `pay` for none
+abbrev copied_by : Bool → Bool → List Bool
+copied_by pay take = (pay && true) ∷ (take && true) ∷ []
+
+abbrev rerun_by : Bool → Bool → ℕ
+rerun_by pay take = count_by (λ b. not b) (copied_by pay take)
+
+each_look_is_the_same : (tells : Text → Bool) → count_by (λ b. not (is_copied tells requests b)) (changed Recorded).bodies ≡ rerun_by (tells (codes "pay")) (tells (codes "take"))
+each_look_is_the_same tells = refl
+
+false_unless : (b : Bool) → (IsTrue b → ⊥) → b ≡ false
+false_unless true never = absurd (never refl)
+false_unless false never = refl
+
+not_taken_for_unchanged : {r : Report} (is : IsReport (Some stored) longer requests (changed Recorded) r) → is.is_unchanged (codes "pay") ≡ false
+not_taken_for_unchanged is = false_unless (is.is_unchanged (codes "pay")) (λ taken. pay_has_changed (codes "pay") refl ((is.unchanged (codes "pay")).0 taken))
+
+not_taken_for_changed : {r : Report} (is : IsReport (Some stored) longer requests (changed Recorded) r) → is.is_unchanged (codes "take") ≡ true
+not_taken_for_changed is = (is.unchanged (codes "take")).1 (others_are_unchanged (codes "take") refl)
+
+one_was_run_again : {r : Report} → IsReport (Some stored) longer requests (changed Recorded) r → r.reran ≡ 1
+one_was_run_again is =
+    is.reran
+    ∙ each_look_is_the_same is.is_unchanged
+    ∙ ap (λ b. rerun_by b (is.is_unchanged (codes "take"))) (not_taken_for_unchanged is)
+    ∙ ap (rerun_by false) (not_taken_for_changed is)
+
+all_run_again : IsReport (Some stored) longer requests (changed Recorded) (record report { reran = 2 }) → ⊥
+all_run_again is = let z : 2 ≡ 1 = one_was_run_again is in absurd (omega (arith, z))
+
+none_run_again : IsReport (Some stored) longer requests (changed Recorded) (record report { reran = 0 }) → ⊥
+none_run_again is = let z : 0 ≡ 1 = one_was_run_again is in absurd (omega (arith, z))
 
 -- a history and itself have no lines
 no_flow_lines : (h : List Entry) → AreFlowLines h h []
