@@ -5,7 +5,8 @@
  *   log walk FILE         reads the file and goes from record to record
  *   log fields FILE       the same, and goes through each field of each record (docs/FORMAT.md)
  *
- * The last two tell the number of entries and the seconds.
+ * The last two tell the number of entries and the seconds. Compiled with -DKEEP_TEXTS, `fields` keeps each text as an
+ * allocation of its own.
  */
 #define _POSIX_C_SOURCE 200809L
 #include <stdint.h>
@@ -137,8 +138,22 @@ static uint32_t get32(void) {
     return value;
 }
 
+static uint8_t **texts;
+static size_t kept, most;
+
+static void keep(uint32_t bytes) {
+    if (kept == most) texts = realloc(texts, (most = 2 * most + 16) * sizeof *texts);
+    if (!texts || !(texts[kept] = malloc(bytes + 1))) die("texts");
+    memcpy(texts[kept++], at, bytes);
+}
+
 static void skip_text(void) {
     uint32_t bytes = get32();
+#ifdef KEEP_TEXTS
+    keep(bytes);
+#else
+    (void)keep;
+#endif
     sum += bytes;
     at += bytes;
 }
@@ -224,6 +239,7 @@ static void walk(const char *file, int fields) {
         at = next;
         entries++;
     }
+    while (kept) free(texts[--kept]);
     printf("%u entries, %ld bytes, %.4f seconds (%u)\n", entries, size, now() - from, (unsigned)(sum & 1));
 }
 

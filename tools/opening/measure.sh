@@ -15,6 +15,7 @@ entries=300002
 
 mkdir -p "$work"
 cc -O2 -Wall -Wextra -o "$work/log" "$here/log.c"
+cc -O2 -Wall -Wextra -DKEEP_TEXTS -o "$work/texts" "$here/log.c"
 "$work/log" make "$work/store" $(((entries - 2) / 3))
 
 program=$work/repository/crates/opening/out/opening
@@ -55,7 +56,8 @@ python3 - "$rounds" "$work/log" "$program" <<'END'
 import subprocess, sys, time
 
 rounds, log, program = int(sys.argv[1]), sys.argv[2], sys.argv[3]
-commands = {"walk": [log, "walk", "store"], "fields": [log, "fields", "store"], "open": [program]}
+commands = {"walk": [log, "walk", "store"], "fields": [log, "fields", "store"],
+            "texts": ["./texts", "fields", "store"], "open": [program]}
 least = {}
 for _ in range(rounds):
     for name, command in commands.items():
@@ -67,7 +69,7 @@ for name, took in least.items():
     print(f"{name:7} {1e3 * took:8.1f} ms   {took / least['walk']:5.1f} times walking")
 END
 if command -v valgrind >/dev/null; then
-    for command in "log walk store" "log fields store" "$program"; do
+    for command in "log walk store" "log fields store" "texts fields store" "$program"; do
         case $command in /*) ;; *) command=./$command ;; esac
         count=$(valgrind --tool=callgrind --callgrind-out-file=/dev/null $command 2>&1 | sed -n 's/.*Collected : \([0-9]*\).*/\1/p')
         echo "$(basename "${command%% *}") ${command#* }: $((count / entries)) instructions an entry"
